@@ -1,0 +1,9 @@
+pub mod Pigeonhole
+pub mod Orbits
+pub mod Falls
+pub mod Narrowing
+pub mod Walking
+pub mod Lawful
+pub mod Equality
+pub mod Laws
+pub mod Piles
