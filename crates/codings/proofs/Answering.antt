@@ -2,12 +2,14 @@
 use mathlib.Core.Path.{_≡_, refl, sym, ap, _∙_}
 use mathlib.Core.Bool.{true, false}
 use mathlib.Core.Logic.{_⊎_, inl, inr}
-use Prim.Native.Nat.{ℕ, _≤_, _<_}
+use Prim.Native.Nat.{ℕ, min, _≤_, _<_}
 use native.Mathlib.Omega.{arith}
 use Rattle.std.proofs.shelf.Tests.{cases-lt, le-leb, lt-leb}
 use Rattle.std.specs.declared.result.Result.{Result}
 use Rattle.std.specs.declared.result.Result.the-variants.{Ok, Err}
-use Rattle.meanings.specs.Meaning.{Meaning}
+use Rattle.meanings.specs.Layers.{narrowed}
+use Rattle.meanings.specs.Meaning.{Meaning, Lawful}
+use Rattle.meanings.proofs.Walking.{On, left, begins, goes-on, ends}
 use Rattle.codings.specs.declared.refusal.AboveTop.{AboveTop}
 use Rattle.codings.specs.Asking.{coded, above-top}
 
@@ -24,3 +26,21 @@ told m x y e = go (cases-lt (m .top) x)
     go : (m .top < x) ⊎ (x ≤ m .top) → (x ≤ m .top) × (y ≡ m .rule x)
     go (inl out) = let no-way : _≡_ {A = Result ℕ AboveTop} (Ok y) (Err above-top) = e ∙ sym (refused m x out) in let z : _≡_ {A = ℕ} 0 1 = cc in absurd (omega arith)
     go (inr ins) = let same : _≡_ {A = Result ℕ AboveTop} (Ok y) (Ok (m .rule x)) = e ∙ sym (answered m x (m .rule x) ins refl) in (ins, cc)
+
+-- The turns of a narrowing loop, by what the coding below answered. `top` is the new top, and y the answer at w.
+module _ (t top : ℕ) (m : Meaning) (l : Lawful m) (new : top ≡ min t (m .top)) (x : ℕ) where
+  pub walk-begins : (y : ℕ) → x ≤ top → Ok y ≡ coded m x → On top m x y
+  walk-begins y small e = rw (told m x y e .1) (begins t top m l x new small)
+
+  pub walk-again : (w y : ℕ) → top < w → Ok y ≡ coded m w → On top m x w → On top m x y
+  walk-again w y above e on = rw (told m w y e .1) (goes-on top m l x w on above .0)
+
+  pub walk-less : (w y : ℕ) → top < w → Ok y ≡ coded m w → On top m x w → left top m y < left top m w
+  walk-less w y above e on = rw (told m w y e .1) (goes-on top m l x w on above .1)
+
+  pub walk-ends : (w : ℕ) → x ≤ top → w ≤ top → On top m x w → Ok w ≡ coded (narrowed t m) x
+  walk-ends w low small on = answered (narrowed t m) x w (rw new at low) (ends t top m x w new on small)
+
+  -- above the new top
+  pub walk-refused : top < x → Err above-top ≡ coded (narrowed t m) x
+  walk-refused above = refused (narrowed t m) x (rw new at above)

@@ -6,4 +6,5 @@ pub mod lent;
 pub mod narrowed;
 pub mod plus;
 pub mod refusal;
+pub mod tree;
 pub mod turned;

@@ -1,35 +1,33 @@
-use mathlib.Core.Path.{sym}
-use Prim.Native.Nat.{min, _≤_, _<_}
-use native.Mathlib.Omega.{arith}
-use Rattle.meanings.specs.Layers.{narrowed}
-use Rattle.meanings.proofs.Walking.{begins, goes-on, ends}
-use Rattle.codings.proofs.Answering.{answered, told}
+use mathlib.Core.Path.{_≡_}
+use Prim.Native.Nat.{min}
+use borrow.Author.Needs.{needs}
+use Rattle.codings.proofs.Answering.{walk-begins, walk-again, walk-less, walk-ends}
 use Rattle.codings.proofs.narrowed.first_within.Needs as need
 
 pub loop-y-holds : need.loop-y-holds
 loop-y-holds g c =
     let m = g .A·Coding .means (c .args .below .now) in
     let l = g .A·Coding .lawful (c .args .below .now) in
-    let small : c .args .x ≤ min (c .args .to) (m .top) = omega (arith, c .top .ensures, c .narrowed-top-top .ensures) in
-    rw (told m (c .args .x) (c .in-Continue-y .y) (c .in-Continue-y .ensures tt) .1) (begins (c .args .to) m l (c .args .x) small)
+    let new : c .narrowed-top-top .result ≡ min (c .args .to) (m .top) = search needs in
+    walk-begins (c .args .to) _ m l new (c .args .x) _ (c .if-x-top .left) (c .in-Continue-y .ensures tt)
 
 pub loop-y-less : need.loop-y-less
 loop-y-less g c =
     let m = g .A·Coding .means (c .args .below .now) in
     let l = g .A·Coding .lawful (c .args .below .now) in
-    let above : min (c .args .to) (m .top) < c .loop-y .y = omega (arith, c .top .ensures, c .narrowed-top-top .ensures) in
-    rw (told m (c .loop-y .y) (c .in-Continue-y-2 .y) (c .in-Continue-y-2 .ensures tt) .1) (goes-on (c .args .to) m l (c .args .x) (c .loop-y .y) (c .loop-y .inv) above .1)
+    let new : c .narrowed-top-top .result ≡ min (c .args .to) (m .top) = search needs in
+    walk-less (c .args .to) _ m l new (c .args .x) _ _ (c .loop-y-test .taken) (c .in-Continue-y-2 .ensures tt) (c .loop-y .inv)
 
 pub loop-y-again : need.loop-y-again
 loop-y-again g c =
     let m = g .A·Coding .means (c .args .below .now) in
     let l = g .A·Coding .lawful (c .args .below .now) in
-    let above : min (c .args .to) (m .top) < c .loop-y .y = omega (arith, c .top .ensures, c .narrowed-top-top .ensures) in
-    rw (told m (c .loop-y .y) (c .in-Continue-y-2 .y) (c .in-Continue-y-2 .ensures tt) .1) (goes-on (c .args .to) m l (c .args .x) (c .loop-y .y) (c .loop-y .inv) above .0)
+    let new : c .narrowed-top-top .result ≡ min (c .args .to) (m .top) = search needs in
+    walk-again (c .args .to) _ m l new (c .args .x) _ _ (c .loop-y-test .taken) (c .in-Continue-y-2 .ensures tt) (c .loop-y .inv)
 
 pub returns : need.returns
 returns g c =
     let m = g .A·Coding .means (c .args .below .now) in
-    let small : c .loop-y .y ≤ min (c .args .to) (m .top) = omega (arith, c .top .ensures, c .narrowed-top-top .ensures) in
-    let low : c .args .x ≤ min (c .args .to) (m .top) = omega (arith, c .top .ensures, c .narrowed-top-top .ensures) in
-    answered (narrowed (c .args .to) m) (c .args .x) (c .loop-y .y) low (ends (c .args .to) m (c .args .x) (c .loop-y .y) (c .loop-y .inv) small)
+    let l = g .A·Coding .lawful (c .args .below .now) in
+    let new : c .narrowed-top-top .result ≡ min (c .args .to) (m .top) = search needs in
+    walk-ends (c .args .to) _ m l new (c .args .x) _ (c .if-x-top .left) (c .loop-y-test .left) (c .loop-y .inv)
