@@ -8,7 +8,7 @@ use Rattle.std.proofs.shelf.Tests.{cases-lt, le-leb, lt-leb}
 use Rattle.std.specs.declared.result.Result.{Result}
 use Rattle.std.specs.declared.result.Result.the-variants.{Ok, Err}
 use Rattle.meanings.specs.Layers.{narrowed}
-use Rattle.meanings.specs.Meaning.{Meaning, Lawful}
+use Rattle.meanings.specs.Meaning.{Meaning, Lawful, Same}
 use Rattle.meanings.proofs.Walking.{On, left, begins, goes-on, ends}
 use Rattle.codings.specs.declared.refusal.AboveTop.{AboveTop}
 use Rattle.codings.specs.Asking.{coded, above-top}
@@ -44,3 +44,11 @@ module _ (t top : ℕ) (m : Meaning) (l : Lawful m) (new : top ≡ min t (m .top
   -- above the new top
   pub walk-refused : top < x → Err above-top ≡ coded (narrowed t m) x
   walk-refused above = refused (narrowed t m) x (rw new at above)
+
+-- equal codings give the same answers
+pub same-answers : (l r : Meaning) → Same l r → (x : ℕ) → coded l x ≡ coded r x
+same-answers l r s x = go (cases-lt (l .top) x)
+  where
+    go : (l .top < x) ⊎ (x ≤ l .top) → coded l x ≡ coded r x
+    go (inl out) = sym (refused l x out) ∙ refused r x (rw (s .tops) at out)
+    go (inr ins) = sym (answered l x (l .rule x) ins refl) ∙ answered r x (l .rule x) (rw (s .tops) at ins) (s .rules x ins)

@@ -1,3 +1,5 @@
 pub mod Refusal
 pub mod Asking
 pub mod Trees
+pub mod Stacking
+pub mod Shown

@@ -1,5 +1,5 @@
 -- What a pile that is put together at run time means: the pile that its layers make.
-use Prim.Native.Nat.{ℕ}
+use Prim.Native.Nat.{ℕ, _+_, max}
 use Rattle.meanings.specs.Meaning.{Meaning, Lawful}
 use Rattle.meanings.specs.Layers.{turned}
 use Rattle.meanings.specs.Piles.{Pile, leaf, chain-of, turn-of, narrow-of, meaning}
@@ -27,3 +27,10 @@ facing Back m = turned m
 abbrev pub other-way : Way → Way
 other-way There = Back
 other-way Back = There
+
+-- How many layers stand above one another, a leaf counting 1.
+abbrev pub height-of : {C : Type 0} → Tree C → ℕ
+height-of (Leaf c) = 1
+height-of (Chain′ p first q then) = max (height-of first) (height-of then) + 1
+height-of (Turned′ p below) = height-of below + 1
+height-of (Narrowed′ p below to) = height-of below + 1

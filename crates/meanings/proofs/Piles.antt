@@ -1,6 +1,8 @@
 -- Every pile is a lawful coding, by induction on its layers; the rest follows for any lawful codings.
-use Rattle.meanings.specs.Meaning.{Lawful}
-use Rattle.meanings.specs.Piles.{Pile, leaf, chain-of, turn-of, narrow-of, meaning, EveryPile}
+use Prim.Native.Nat.{ℕ}
+use Rattle.meanings.specs.Meaning.{Meaning, Lawful}
+use Rattle.meanings.specs.Layers.{chained, turned, narrowed}
+use Rattle.meanings.specs.Piles.{Pile, leaf, chain-of, turn-of, narrow-of, meaning, EveryPile, AnyThree}
 use Rattle.meanings.proofs.Narrowing.{turned-lawful, narrowed-lawful, narrowed-is}
 use Rattle.meanings.proofs.Lawful.{chained-lawful, chained-is, turned-is, each-once}
 use Rattle.meanings.proofs.Equality.{equality}
@@ -22,4 +24,24 @@ every-pile =
       once = λ p. each-once (meaning p) (pile-lawful p);
       laws = λ p q r t u. laws (meaning p) (meaning q) (meaning r) (pile-lawful p) t u;
       equality = equality;
+    }
+
+pub any-three : (a b c : Meaning) → Lawful a → Lawful b → (t u : ℕ) → AnyThree a b c t u
+any-three a b c la lb t u =
+    record {
+      chain = chained-is a b;
+      turn = turned-is a la;
+      narrow = narrowed-is t a la;
+      once = each-once a la;
+      chain-once = each-once (chained a b) (chained-lawful a b la lb);
+      turn-once = each-once (turned a) (turned-lawful a la);
+      narrow-once = each-once (narrowed t a) (narrowed-lawful t a la);
+      laws = laws a b c la t u;
+      same-reflexive = equality .reflexive a;
+      same-symmetric = equality .symmetric a b;
+      same-transitive = equality .transitive a b c;
+      same-chain = λ s. (equality .chain a c b c s (equality .reflexive c), equality .chain c a c b (equality .reflexive c) s);
+      same-turn = equality .turn a b la lb;
+      same-narrow = equality .narrow t a b la lb;
+      same-back = equality .backs a b la lb;
     }

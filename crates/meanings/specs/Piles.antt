@@ -1,6 +1,6 @@
 -- Piles of codings, and what holds of every one.
 use Prim.Native.Nat.{ℕ}
-use Rattle.meanings.specs.Meaning.{Meaning, Lawful, Same, EachOnce}
+use Rattle.meanings.specs.Meaning.{Meaning, Lawful, Same, SameBack, EachOnce}
 use Rattle.meanings.specs.Layers.{chained, turned, narrowed, IsChain, IsTurned, IsNarrowed}
 use Rattle.meanings.specs.Laws.{Laws, Equality}
 
@@ -29,3 +29,21 @@ pub record EveryPile : Type 0 where
   pub once : (p : Pile) → EachOnce (meaning p)
   pub laws : (p q r : Pile) (t u : ℕ) → Laws (meaning p) (meaning q) (meaning r) t u
   pub equality : Equality
+
+-- The same of any three codings a, b and c and any two numbers t and u.
+pub record AnyThree (a b c : Meaning) (t u : ℕ) : Type 0 where
+  pub chain : IsChain a b (chained a b)
+  pub turn : IsTurned a (turned a)
+  pub narrow : IsNarrowed t a (narrowed t a)
+  pub once : EachOnce a
+  pub chain-once : EachOnce (chained a b)
+  pub turn-once : EachOnce (turned a)
+  pub narrow-once : EachOnce (narrowed t a)
+  pub laws : Laws a b c t u
+  pub same-reflexive : Same a a
+  pub same-symmetric : Same a b → Same b a
+  pub same-transitive : Same a b → Same b c → Same a c
+  pub same-chain : Same a b → Same (chained a c) (chained b c) × Same (chained c a) (chained c b)
+  pub same-turn : Same a b → Same (turned a) (turned b)
+  pub same-narrow : Same a b → Same (narrowed t a) (narrowed t b)
+  pub same-back : Same a b → SameBack a b
