@@ -1,3 +1,1 @@
 pub mod Answering
-pub mod Ways
-pub mod Stacking

@@ -1,5 +1,2 @@
 pub mod Refusal
 pub mod Asking
-pub mod Trees
-pub mod Stacking
-pub mod Shown

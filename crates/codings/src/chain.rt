@@ -6,7 +6,7 @@ use crate::coding::Coding;
 use crate::refusal::AboveTop;
 use meanings::chained_top;
 
-#[derive(Debug, Drop)]
+#[derive(Drop)]
 pub struct Chain<A, B> {
     first: A,
     then: B,

@@ -5,7 +5,7 @@ ghost use Rattle.meanings.proofs.Lawful.{clear-lawful};
 use crate::coding::Coding;
 use crate::refusal::AboveTop;
 
-#[derive(Clone, Copy, Debug)]
+#[derive(Clone, Copy)]
 pub struct Clear {
     top: u64,
 }

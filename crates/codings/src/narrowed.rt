@@ -11,7 +11,7 @@ use crate::turned::Turned;
 use crate::turned::TurnedCoding;
 use meanings::narrowed_top;
 
-#[derive(Debug, Drop)]
+#[derive(Drop)]
 pub struct Narrowed<A> {
     below: A,
     to: u64,

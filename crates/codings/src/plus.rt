@@ -7,7 +7,7 @@ ghost use Rattle.std.specs.Results.{Cases};
 use crate::coding::Coding;
 use crate::refusal::AboveTop;
 
-#[derive(Clone, Copy, Debug)]
+#[derive(Clone, Copy)]
 pub struct Plus {
     top: u64,
     k: u64,

@@ -1,4 +1,4 @@
-// Why a coding refuses a number, and why a layer cannot be laid on a pile.
+// The refusal of a coding.
 ghost use mathlib.Core.Path.{_≡_};
 ghost use Rattle.codings.specs.Refusal.{number-of};
 
@@ -13,13 +13,4 @@ impl AboveTop {
     {
         13
     }
-}
-
-// Why a layer cannot be laid on a pile. Neither is a refusal of a coding, so neither has a number.
-#[derive(Clone, Copy, PartialEq, Eq, Debug)]
-pub enum PileError {
-    // There is no memory for the layer.
-    NoMemory,
-    // The pile would have more layers above one another than a pile may have.
-    TooHigh,
 }

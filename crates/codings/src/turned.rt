@@ -5,7 +5,7 @@ ghost use Rattle.meanings.proofs.Narrowing.{turned-lawful};
 use crate::coding::Coding;
 use crate::refusal::AboveTop;
 
-#[derive(Debug, Drop)]
+#[derive(Drop)]
 pub struct Turned<A> {
     below: A,
 }

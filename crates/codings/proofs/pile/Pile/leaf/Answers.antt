@@ -1,5 +1,0 @@
-use Rattle.codings.proofs.Stacking.{leaf-made}
-use Rattle.codings.proofs.pile.Pile.leaf.Needs as need
-
-pub returns : need.returns
-returns g c = leaf-made (g .C·Coding .means) (g .C·Coding .lawful) (c .args .coding)
