@@ -27,23 +27,27 @@ told m x y e = go (cases-lt (m .top) x)
     go (inl out) = let no-way : _≡_ {A = Result ℕ AboveTop} (Ok y) (Err above-top) = e ∙ sym (refused m x out) in let z : _≡_ {A = ℕ} 0 1 = cc in absurd (omega arith)
     go (inr ins) = let same : _≡_ {A = Result ℕ AboveTop} (Ok y) (Ok (m .rule x)) = e ∙ sym (answered m x (m .rule x) ins refl) in (ins, cc)
 
--- The turns of a narrowing loop, by what the coding below answered. `top` is the new top, and y the answer at w.
-module _ (t top : ℕ) (m : Meaning) (l : Lawful m) (new : top ≡ min t (m .top)) (x : ℕ) where
-  pub walk-begins : (y : ℕ) → x ≤ top → Ok y ≡ coded m x → On top m x y
-  walk-begins y small e = rw (told m x y e .1) (begins t top m l x new small)
+-- What a narrowing loop keeps: y lies on the way from x, and once it is at most the new top it is the answer.
+abbrev pub Walks : (t top : ℕ) → Meaning → (x y : ℕ) → Type 0
+Walks t top m x y = On top m x y × (y ≤ top → Ok y ≡ coded (narrowed t m) x)
 
-  pub walk-again : (w y : ℕ) → top < w → Ok y ≡ coded m w → On top m x w → On top m x y
-  walk-again w y above e on = rw (told m w y e .1) (goes-on top m l x w on above .0)
+-- The turns of the loop, by what the coding below answered. `top` is the new top, and y the answer at w.
+module _ (t top : ℕ) (m : Meaning) (l : Lawful m) (new : top ≡ min t (m .top)) (x : ℕ) (low : x ≤ top) where
+  answer : (y : ℕ) → On top m x y → y ≤ top → Ok y ≡ coded (narrowed t m) x
+  answer y on small = answered (narrowed t m) x y (rw new at low) (ends t top m x y new on small)
+
+  pub walk-begins : (y : ℕ) → Ok y ≡ coded m x → Walks t top m x y
+  walk-begins y e =
+      let on : On top m x y = rw (told m x y e .1) (begins t top m l x new low) in
+      (on, answer y on)
+
+  pub walk-again : (w y : ℕ) → top < w → Ok y ≡ coded m w → On top m x w → Walks t top m x y
+  walk-again w y above e before =
+      let on : On top m x y = rw (told m w y e .1) (goes-on top m l x w before above .0) in
+      (on, answer y on)
 
   pub walk-less : (w y : ℕ) → top < w → Ok y ≡ coded m w → On top m x w → left top m y < left top m w
-  walk-less w y above e on = rw (told m w y e .1) (goes-on top m l x w on above .1)
-
-  pub walk-ends : (w : ℕ) → x ≤ top → w ≤ top → On top m x w → Ok w ≡ coded (narrowed t m) x
-  walk-ends w low small on = answered (narrowed t m) x w (rw new at low) (ends t top m x w new on small)
-
-  -- above the new top
-  pub walk-refused : top < x → Err above-top ≡ coded (narrowed t m) x
-  walk-refused above = refused (narrowed t m) x (rw new at above)
+  walk-less w y above e before = rw (told m w y e .1) (goes-on top m l x w before above .1)
 
 -- equal codings give the same answers
 pub same-answers : (l r : Meaning) → Same l r → (x : ℕ) → coded l x ≡ coded r x

@@ -12,7 +12,7 @@ use Rattle.codings.specs.Asking.{coded}
 use Rattle.piles.specs.Trees.{facing}
 use Rattle.piles.specs.declared.tree.Way.{Way}
 use Rattle.piles.specs.declared.tree.Way.the-variants.{There, Back}
-use Rattle.codings.proofs.Answering.{walk-begins, walk-again, walk-less, walk-ends}
+use Rattle.codings.proofs.Answering.{Walks, walk-begins, walk-again, walk-less}
 
 facing-lawful : (w : Way) (m : Meaning) → Lawful m → Lawful (facing w m)
 facing-lawful There m l = l
@@ -26,22 +26,29 @@ facing-narrowed : (w : Way) (t : ℕ) (m : Meaning) (x : ℕ) → coded (narrowe
 facing-narrowed There t m x = refl
 facing-narrowed Back t m x = refl
 
--- p is the pile below, b its top, t what it is narrowed to and top the new top.
-module _ (w : Way) (t b top : ℕ) (p : Pile) (below : b ≡ meaning p .top) (least : top ≡ min t b) (x : ℕ) where
+-- What the loop keeps, where m is the coding below and n the narrowed one, both met on the way w.
+abbrev pub GoesOn : (top : ℕ) (m n : Meaning) (x y : ℕ) → Type 0
+GoesOn top m n x y = On top m x y × (y ≤ top → Ok y ≡ coded n x)
+
+-- p is the pile below, b its top, t what it is narrowed to and top the new top; n is the narrowed pile's meaning.
+module _ (w : Way) (t b top : ℕ) (p : Pile) (n : Meaning) (is : n ≡ narrowed t (meaning p)) (below : b ≡ meaning p .top) (least : top ≡ min t b) (x : ℕ) (low : x ≤ top) where
+  abbrev Goes : ℕ → Type 0
+  Goes y = GoesOn top (facing w (meaning p)) (facing w n) x y
+
+  onward : (y : ℕ) → Walks t top (facing w (meaning p)) x y → Goes y
+  onward y on = (on .0, λ small. on .1 small ∙ facing-narrowed w t (meaning p) x ∙ ap (λ m. coded (facing w m) x) (sym is))
+
   sound : Lawful (facing w (meaning p))
   sound = facing-lawful w (meaning p) (pile-lawful p)
 
   new : top ≡ min t (facing w (meaning p) .top)
   new = least ∙ ap (min t) (below ∙ sym (facing-top w (meaning p)))
 
-  pub way-begins : (y : ℕ) → x ≤ top → Ok y ≡ coded (facing w (meaning p)) x → On top (facing w (meaning p)) x y
-  way-begins = walk-begins t top (facing w (meaning p)) sound new x
+  pub way-begins : (y : ℕ) → Ok y ≡ coded (facing w (meaning p)) x → Goes y
+  way-begins y e = onward y (walk-begins t top (facing w (meaning p)) sound new x low y e)
 
-  pub way-again : (v y : ℕ) → top < v → Ok y ≡ coded (facing w (meaning p)) v → On top (facing w (meaning p)) x v → On top (facing w (meaning p)) x y
-  way-again = walk-again t top (facing w (meaning p)) sound new x
+  pub way-again : (v y : ℕ) → top < v → Ok y ≡ coded (facing w (meaning p)) v → Goes v → Goes y
+  way-again v y above e before = onward y (walk-again t top (facing w (meaning p)) sound new x low v y above e (before .0))
 
-  pub way-less : (v y : ℕ) → top < v → Ok y ≡ coded (facing w (meaning p)) v → On top (facing w (meaning p)) x v → left top (facing w (meaning p)) y < left top (facing w (meaning p)) v
-  way-less = walk-less t top (facing w (meaning p)) sound new x
-
-  pub way-ends : (v : ℕ) → x ≤ top → v ≤ top → On top (facing w (meaning p)) x v → Ok v ≡ coded (facing w (narrowed t (meaning p))) x
-  way-ends v low small on = walk-ends t top (facing w (meaning p)) sound new x v low small on ∙ facing-narrowed w t (meaning p) x
+  pub way-less : (v y : ℕ) → top < v → Ok y ≡ coded (facing w (meaning p)) v → Goes v → left top (facing w (meaning p)) y < left top (facing w (meaning p)) v
+  way-less v y above e before = walk-less t top (facing w (meaning p)) sound new x low v y above e (before .0)

@@ -1,7 +1,4 @@
-// Piles of codings: `pile` is a pile put together at run time, over the layers of `tree`, and `laws` shows
-// what holds of every coding and every pile.
+// Piles of codings that are put together at run time: `pile` is such a pile, and `tree` holds its layers.
 pub mod error;
-pub mod laws;
 pub mod pile;
-pub mod sides;
 pub mod tree;

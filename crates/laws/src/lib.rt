@@ -2,7 +2,7 @@
 ghost use mathlib.Core.Path.{_≡_};
 ghost use Rattle.codings.specs.Asking.{coded};
 ghost use Prim.Native.Nat.{min};
-ghost use Rattle.piles.specs.Shown.{Agree, Shown, sides};
+ghost use Rattle.laws.specs.Shown.{Agree, Shown, sides};
 ghost use Rattle.meanings.specs.Layers.{chained, turned, narrowed};
 ghost use Rattle.meanings.specs.Piles.{AnyThree};
 ghost use Rattle.meanings.specs.Supplied.{clear};
@@ -18,6 +18,8 @@ use crate::sides::Sides;
 use codings::turned::Turned;
 use codings::turned::TurnedCoding;
 use meanings::narrowed_top;
+
+pub mod sides;
 
 // The code of x turned back: x again, or the refusal where x is above the top.
 pub fn there_and_back<C: Coding>(coding: &C, x: u64) -> Result<u64, AboveTop>

@@ -1,5 +1,5 @@
 use Rattle.meanings.proofs.Piles.{any-three}
-use Rattle.piles.proofs.laws.laws_at.Needs as need
+use Rattle.laws.proofs.laws_at.Needs as need
 
 pub returns : need.returns
 returns g c =

@@ -3,9 +3,9 @@ use borrow.Author.Needs.{needs}
 use Prim.Native.Nat.{min}
 use Rattle.meanings.specs.Layers.{narrowed}
 use Rattle.meanings.proofs.Laws.{laws}
-use Rattle.piles.specs.Shown.{sides}
+use Rattle.laws.specs.Shown.{sides}
 use Rattle.codings.proofs.Answering.{same-answers}
-use Rattle.piles.proofs.laws.narrowed_twice.Needs as need
+use Rattle.laws.proofs.narrowed_twice.Needs as need
 
 pub returns : need.returns
 returns g c =

@@ -4,8 +4,8 @@ use Prim.Native.Nat.{ℕ, min}
 use Rattle.meanings.specs.Meaning.{Meaning}
 use Rattle.meanings.specs.Layers.{chained, turned, narrowed}
 use Rattle.codings.specs.Asking.{coded}
-use Rattle.piles.specs.declared.sides.Sides.{Sides}
-use Rattle.piles.specs.declared.sides.FiveLaws.{FiveLaws}
+use Rattle.laws.specs.declared.sides.Sides.{Sides}
+use Rattle.laws.specs.declared.sides.FiveLaws.{FiveLaws}
 
 abbrev pub sides : Meaning → Meaning → ℕ → Sides
 sides l r x = record { left = coded l x; right = coded r x }
