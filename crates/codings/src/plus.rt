@@ -1,6 +1,7 @@
 // Plus: a top t and a constant k, and x is coded as (x + k) mod (t + 1).
 ghost use Prim.Native.Nat.{_≤_, _<_};
 ghost use mathlib.Core.Path.{_≡_};
+ghost use Rattle.codings.specs.Wrapping.{Wraps};
 ghost use Rattle.meanings.specs.Supplied.{plus};
 ghost use Rattle.meanings.proofs.Lawful.{plus-lawful};
 ghost use Rattle.std.specs.Results.{Cases};
@@ -32,13 +33,12 @@ pub impl Coding for Plus as PlusCoding {
         self.top
     }
 
-    // The sum is never made where it could pass the top, so nothing overflows at the largest top.
     fn code(&self, x: u64) -> Result<u64, AboveTop> {
         if x > self.top {
             return Err(AboveTop);
         }
         let room = self.top - self.k;
-        if x <= room { Ok(x + self.k) } else { Ok(x - room - 1) }
+        if wraps(self.top, self.k, x) { Ok(x - room - 1) } else { Ok(x + self.k) }
     }
 
     fn back(&self, y: u64) -> Result<u64, AboveTop> {
@@ -47,4 +47,13 @@ pub impl Coding for Plus as PlusCoding {
         }
         if y >= self.k { Ok(y - self.k) } else { Ok(y + (self.top - self.k) + 1) }
     }
+}
+
+// Whether x + k passes the top. The sum is not made for it, so nothing overflows at the largest top.
+fn wraps(top: u64, k: u64, x: u64) -> bool
+    requires small { ⌜ k ≤ top ⌝ }
+    requires within { ⌜ x ≤ top ⌝ }
+    ensures { λ r. ⌜ Wraps top k x r ⌝ }
+{
+    x > top - k
 }

@@ -4,7 +4,7 @@ ghost use Rattle.codings.specs.Asking.{coded};
 ghost use Prim.Native.Nat.{min};
 ghost use Rattle.laws.specs.Shown.{Agree, Shown, sides};
 ghost use Rattle.meanings.specs.Layers.{chained, turned, narrowed};
-ghost use Rattle.meanings.specs.Piles.{AnyThree};
+ghost use Rattle.meanings.specs.Piles.{AnyThree, EveryPile};
 ghost use Rattle.meanings.specs.Supplied.{clear};
 use codings::chain::Chain;
 use codings::chain::ChainCoding;
@@ -35,11 +35,18 @@ pub fn back_and_there<C: Coding>(coding: &C, y: u64) -> Result<u64, AboveTop>
     coding.code(coding.back(y)?)
 }
 
-// Both sides of each of the five laws at the number x. They agree, at every number: that is the theorem on
-// any three codings and any two tops which the contract names.
+// Both sides of each of the five laws at the number x. They agree at every number: the contract names the
+// theorem on every pile of codings, and the same of any three codings and any two numbers to narrow to.
 pub fn laws_at<A: Coding, B: Coding, C: Coding>(a: &A, b: &B, c: &C, t: u64, u: u64, x: u64) -> FiveLaws
-    ensures theorem { λ _. ⌜ AnyThree (A·Coding .means (now (a .entry))) (B·Coding .means (now (b .entry))) (C·Coding .means (now (c .entry))) t u ⌝ }
+    ensures every_pile { λ _. ⌜ EveryPile ⌝ }
+    ensures any_three { λ _. ⌜ AnyThree (A·Coding .means (now (a .entry))) (B·Coding .means (now (b .entry))) (C·Coding .means (now (c .entry))) t u ⌝ }
     ensures shown { λ r. ⌜ Shown (A·Coding .means (now (a .entry))) (B·Coding .means (now (b .entry))) (C·Coding .means (now (c .entry))) t u x r ⌝ }
+{
+    both_sides(a, b, c, t, u, x)
+}
+
+fn both_sides<A: Coding, B: Coding, C: Coding>(a: &A, b: &B, c: &C, t: u64, u: u64, x: u64) -> FiveLaws
+    ensures { λ r. ⌜ Shown (A·Coding .means (now (a .entry))) (B·Coding .means (now (b .entry))) (C·Coding .means (now (c .entry))) t u x r ⌝ }
 {
     FiveLaws {
         regrouped: regrouped(a, b, c, x),

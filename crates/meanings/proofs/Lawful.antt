@@ -73,30 +73,56 @@ clear-lawful t = record { within = λ x h. h; lands = λ y h. h; undoes = λ x h
 pub plus-low : (t k x : ℕ) → x + k ≤ t → (x + k) % (t + 1) ≡ x + k
 plus-low t k x h = mod-eq-of-lt (omega arith)
 
-pub plus-high : (t k x : ℕ) → x ≤ t → k ≤ t + 1 → t < x + k → (x + k) % (t + 1) ≡ x + k - (t + 1)
+pub plus-high : (t k x : ℕ) → x ≤ t → k ≤ t → t < x + k → (x + k) % (t + 1) ≡ x + k - (t + 1)
 plus-high t k x hx hk h =
     let over : t + 1 ≤ x + k = omega arith in
     let rest : x + k - (t + 1) < t + 1 = omega arith in
     mod-eq-sub-mod over ∙ mod-eq-of-lt rest
 
-plus-undoes : (t j k x : ℕ) → j + k ≡ t + 1 → x ≤ t → ((x + k) % (t + 1) + j) % (t + 1) ≡ x
-plus-undoes t j k x e h = go (cases-lt t (x + k))
+-- the way back by its two cases
+plus-down : (t k y : ℕ) → k ≤ y → plus t k .back y ≡ y - k
+plus-down t k y h = rw (plus, le-leb k y h)
+
+plus-round : (t k y : ℕ) → y < k → plus t k .back y ≡ y + (t + 1) - k
+plus-round t k y h = rw (plus, lt-leb k y h)
+
+plus-lands : (t k y : ℕ) → k ≤ t → y ≤ t → plus t k .back y ≤ t
+plus-lands t k y hk hy = go (cases-lt y k)
   where
-    go : (t < x + k) ⊎ (x + k ≤ t) → ((x + k) % (t + 1) + j) % (t + 1) ≡ x
+    go : (y < k) ⊎ (k ≤ y) → plus t k .back y ≤ t
+    go (inl low) = omega (arith, plus-round t k y low)
+    go (inr high) = omega (arith, plus-down t k y high)
+
+plus-undoes : (t k x : ℕ) → k ≤ t → x ≤ t → plus t k .back ((x + k) % (t + 1)) ≡ x
+plus-undoes t k x hk hx = go (cases-lt t (x + k))
+  where
+    go : (t < x + k) ⊎ (x + k ≤ t) → plus t k .back ((x + k) % (t + 1)) ≡ x
     go (inl over) =
-        let s : x + k - (t + 1) + j ≡ x = omega arith in
-        rw (plus-high t k x h (omega arith) over, s) (mod-eq-of-lt (omega arith))
+        let low : x + k - (t + 1) < k = omega arith in
+        let s : x + k - (t + 1) + (t + 1) - k ≡ x = omega arith in
+        ap (plus t k .back) (plus-high t k x hx hk over) ∙ plus-round t k (x + k - (t + 1)) low ∙ s
     go (inr low) =
-        let s : x + k + j - (t + 1) ≡ x = omega arith in
-        rw (plus-low t k x low) (plus-high t j (x + k) low (omega arith) (omega arith) ∙ s)
+        let s : x + k - k ≡ x = omega arith in
+        ap (plus t k .back) (plus-low t k x low) ∙ plus-down t k (x + k) (omega arith) ∙ s
+
+plus-redoes : (t k y : ℕ) → k ≤ t → y ≤ t → (plus t k .back y + k) % (t + 1) ≡ y
+plus-redoes t k y hk hy = go (cases-lt y k)
+  where
+    go : (y < k) ⊎ (k ≤ y) → (plus t k .back y + k) % (t + 1) ≡ y
+    go (inl low) =
+        let s : y + (t + 1) - k + k - (t + 1) ≡ y = omega arith in
+        ap (λ n. (n + k) % (t + 1)) (plus-round t k y low) ∙ plus-high t k (y + (t + 1) - k) (omega arith) hk (omega arith) ∙ s
+    go (inr high) =
+        let s : y - k + k ≡ y = omega arith in
+        ap (λ n. (n + k) % (t + 1)) (plus-down t k y high) ∙ plus-low t k (y - k) (omega arith) ∙ s
 
 pub plus-lawful : (t k : ℕ) → k ≤ t → Lawful (plus t k)
 plus-lawful t k h =
     record {
       within = λ x _. below (x + k);
-      lands = λ y _. below (y + (t + 1 - k));
-      undoes = λ x hx. plus-undoes t (t + 1 - k) k x (omega arith) hx;
-      redoes = λ y hy. plus-undoes t k (t + 1 - k) y (omega arith) hy;
+      lands = λ y hy. plus-lands t k y h hy;
+      undoes = λ x hx. plus-undoes t k x h hx;
+      redoes = λ y hy. plus-redoes t k y h hy;
     }
   where
     below : (n : ℕ) → n % (t + 1) ≤ t

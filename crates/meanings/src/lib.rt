@@ -1,12 +1,11 @@
-// What a coding means, and what holds of every pile of codings.
+// What a coding means, and what holds of every pile of codings: the definitions stand in specs/ and the lemmas
+// in proofs/, for the crates above. The code is what the tops of layers come to.
 ghost use mathlib.Core.Path.{_≡_};
 ghost use Prim.Native.Nat.{max, min};
-ghost use Rattle.meanings.specs.Piles.{EveryPile};
 
 // The top of a chain: the larger of its parts' tops.
 pub fn chained_top(first: u64, then: u64) -> u64
-    ensures top { λ r. ⌜ r ≡ max first then ⌝ }
-    ensures piles { λ _. ⌜ EveryPile ⌝ }
+    ensures { λ r. ⌜ r ≡ max first then ⌝ }
 {
     first.max(then)
 }

@@ -4,8 +4,6 @@ ghost use mathlib.Core.Path.{_≡_};
 ghost use Rattle.piles.specs.Trees.{layers, tree-meaning, height-of};
 ghost use Rattle.piles.specs.Stacking.{Stacked, LeafMade, ChainMade, TurnedMade, NarrowedMade, highest};
 ghost use Rattle.meanings.proofs.Piles.{pile-lawful};
-ghost use Rattle.std.specs.Of.Box.{box-value};
-ghost use Rattle.std.specs.Results.{Cases};
 use codings::coding::Coding;
 use codings::refusal::AboveTop;
 use crate::error::PileError;
@@ -28,15 +26,6 @@ fn allowed(height: u32) -> Result<u32, PileError>
     ensures { λ r. ⌜ Stacked height r (λ n. n ≡ height) ⌝ }
 {
     if height <= HIGHEST { Ok(height) } else { Err(PileError::TooHigh) }
-}
-
-fn boxed<C: Drop>(heap: Global, tree: Tree<C>) -> Result<Box<Tree<C>>, PileError>
-    ensures { λ r. ⌜ Cases r (λ b. box-value b ≡ tree) (λ e. e ≡ PileError.NoMemory) ⌝ }
-{
-    match Box::new(heap, tree) {
-        Ok(tree) => Ok(tree),
-        Err(_) => Err(PileError::NoMemory),
-    }
 }
 
 impl<C: Coding + Drop> Pile<C> {
@@ -62,12 +51,8 @@ impl<C: Coding + Drop> Pile<C> {
         ensures { λ r. ⌜ Stacked (max (height-of (self .tree)) (height-of (then .tree)) + 1) r (λ p. ChainMade (C·Coding .means) (C·Coding .lawful) (self .tree) (then .tree) (p .tree)) ⌝ }
     {
         let height = allowed(self.height.max(then.height) + 1)?;
-        let first = boxed(heap, self.tree)?;
-        let then = boxed(heap, then.tree)?;
-        Ok(Pile {
-            tree: Tree::Chain(first, then),
-            height,
-        })
+        let tree = self.tree.chain(heap, then.tree)?;
+        Ok(Pile { tree, height })
     }
 
     // This pile the other way round.
@@ -75,11 +60,8 @@ impl<C: Coding + Drop> Pile<C> {
         ensures { λ r. ⌜ Stacked (height-of (self .tree) + 1) r (λ p. TurnedMade (C·Coding .means) (C·Coding .lawful) (self .tree) (p .tree)) ⌝ }
     {
         let height = allowed(self.height + 1)?;
-        let below = boxed(heap, self.tree)?;
-        Ok(Pile {
-            tree: Tree::Turned(below),
-            height,
-        })
+        let tree = self.tree.turned(heap)?;
+        Ok(Pile { tree, height })
     }
 
     // This pile on the numbers up to `to`.
@@ -87,11 +69,8 @@ impl<C: Coding + Drop> Pile<C> {
         ensures { λ r. ⌜ Stacked (height-of (self .tree) + 1) r (λ p. NarrowedMade (C·Coding .means) (C·Coding .lawful) to (self .tree) (p .tree)) ⌝ }
     {
         let height = allowed(self.height + 1)?;
-        let below = boxed(heap, self.tree)?;
-        Ok(Pile {
-            tree: Tree::Narrowed(below, to),
-            height,
-        })
+        let tree = self.tree.narrowed(heap, to)?;
+        Ok(Pile { tree, height })
     }
 }
 
