@@ -20,7 +20,11 @@ impl Plus {
     pub fn new(top: u64, k: u64) -> Result<Plus, AboveTop>
         ensures { λ r. ⌜ Cases r (λ p. (k ≤ top) × (plus (p .top) (p .k) ≡ plus top k)) (λ _. top < k) ⌝ }
     {
-        if k <= top { Ok(Plus { top, k }) } else { Err(AboveTop) }
+        if k <= top {
+            Ok(Plus { top, k })
+        } else {
+            Err(AboveTop)
+        }
     }
 }
 
@@ -38,14 +42,22 @@ pub impl Coding for Plus as PlusCoding {
             return Err(AboveTop);
         }
         let room = self.top - self.k;
-        if wraps(self.top, self.k, x) { Ok(x - room - 1) } else { Ok(x + self.k) }
+        if wraps(self.top, self.k, x) {
+            Ok(x - room - 1)
+        } else {
+            Ok(x + self.k)
+        }
     }
 
     fn back(&self, y: u64) -> Result<u64, AboveTop> {
         if y > self.top {
             return Err(AboveTop);
         }
-        if y >= self.k { Ok(y - self.k) } else { Ok(y + (self.top - self.k) + 1) }
+        if y >= self.k {
+            Ok(y - self.k)
+        } else {
+            Ok(y + (self.top - self.k) + 1)
+        }
     }
 }
 

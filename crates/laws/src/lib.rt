@@ -6,6 +6,8 @@ ghost use Rattle.laws.specs.Shown.{Agree, Shown, sides};
 ghost use Rattle.meanings.specs.Layers.{chained, turned, narrowed};
 ghost use Rattle.meanings.specs.Piles.{AnyThree, EveryPile};
 ghost use Rattle.meanings.specs.Supplied.{clear};
+use crate::sides::FiveLaws;
+use crate::sides::Sides;
 use codings::chain::Chain;
 use codings::chain::ChainCoding;
 use codings::coding::Coding;
@@ -13,8 +15,6 @@ use codings::lent::LentCoding;
 use codings::narrowed::Narrowed;
 use codings::narrowed::NarrowedCoding;
 use codings::refusal::AboveTop;
-use crate::sides::FiveLaws;
-use crate::sides::Sides;
 use codings::turned::Turned;
 use codings::turned::TurnedCoding;
 use meanings::narrowed_top;
@@ -37,7 +37,14 @@ pub fn back_and_there<C: Coding>(coding: &C, y: u64) -> Result<u64, AboveTop>
 
 // Both sides of each of the five laws at the number x. They agree at every number: the contract names the
 // theorem on every pile of codings, and the same of any three codings and any two numbers to narrow to.
-pub fn laws_at<A: Coding, B: Coding, C: Coding>(a: &A, b: &B, c: &C, t: u64, u: u64, x: u64) -> FiveLaws
+pub fn laws_at<A: Coding, B: Coding, C: Coding>(
+    a: &A,
+    b: &B,
+    c: &C,
+    t: u64,
+    u: u64,
+    x: u64,
+) -> FiveLaws
     ensures every_pile { λ _. ⌜ EveryPile ⌝ }
     ensures any_three { λ _. ⌜ AnyThree (A·Coding .means (now (a .entry))) (B·Coding .means (now (b .entry))) (C·Coding .means (now (c .entry))) t u ⌝ }
     ensures shown { λ r. ⌜ Shown (A·Coding .means (now (a .entry))) (B·Coding .means (now (b .entry))) (C·Coding .means (now (c .entry))) t u x r ⌝ }
@@ -45,7 +52,14 @@ pub fn laws_at<A: Coding, B: Coding, C: Coding>(a: &A, b: &B, c: &C, t: u64, u: 
     both_sides(a, b, c, t, u, x)
 }
 
-fn both_sides<A: Coding, B: Coding, C: Coding>(a: &A, b: &B, c: &C, t: u64, u: u64, x: u64) -> FiveLaws
+fn both_sides<A: Coding, B: Coding, C: Coding>(
+    a: &A,
+    b: &B,
+    c: &C,
+    t: u64,
+    u: u64,
+    x: u64,
+) -> FiveLaws
     ensures { λ r. ⌜ Shown (A·Coding .means (now (a .entry))) (B·Coding .means (now (b .entry))) (C·Coding .means (now (c .entry))) t u x r ⌝ }
 {
     FiveLaws {

@@ -61,6 +61,7 @@ falls-first k t f x y h = record { more = k; reached = end k (f x) h; small = fa
     end : (k w : ℕ) → Falls k t f w y → after k f w ≡ y
     end zero w h = h .1
     end (suc k) w h = end k (f w) (h .1)
+
     before : (k w : ℕ) → Falls k t f w y → (j : ℕ) → j < k → t < after j f w
     before zero w h j lt = absurd (omega arith)
     before (suc k) w h zero lt = h .0

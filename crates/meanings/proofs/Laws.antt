@@ -32,7 +32,7 @@ regrouped a b c =
 
 -- A fall under the narrowed rule is a fall under the rule below.
 falls-below : (t : ℕ) (a : Meaning) → Lawful a → (k j u w v z : ℕ) → u ≤ min t (a .top)
-  → Falls k (min t (a .top)) (a .rule) w v → v ≤ min t (a .top) → Falls j u (narrowed t a .rule) v z → (n : ℕ) × Falls n u (a .rule) w z
+    → Falls k (min t (a .top)) (a .rule) w v → v ≤ min t (a .top) → Falls j u (narrowed t a .rule) v z → (n : ℕ) × Falls n u (a .rule) w z
 falls-below t a l k zero u w v z le first small rest =
     (k, rw (sym (rest .1)) (falls-lower k (min t (a .top)) u (a .rule) w v le first (rest .0)))
 falls-below t a l k (suc j) u w v z le first small rest =
@@ -45,6 +45,7 @@ narrowed-twice a l t u = record { tops = tops; rules = rule }
   where
     tops : min u (min t (a .top)) ≡ min (min t u) (a .top)
     tops = omega arith
+
     rule : (x : ℕ) → x ≤ min u (min t (a .top)) → narrowed u (narrowed t a) .rule x ≡ narrowed (min t u) a .rule x
     rule x h =
         let hx : x ≤ min t (a .top) = omega arith in

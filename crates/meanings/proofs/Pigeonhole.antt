@@ -21,7 +21,7 @@ find g v zero = inr (λ i h e. omega arith)
 find g v (suc n) = step (cases-eq (g n) v) (find g v n)
   where
     step : (g n ≡ v) ⊎ (g n ≡ v → ⊥) → ((i : ℕ) × (i < n) × (g i ≡ v)) ⊎ ((i : ℕ) → i < n → g i ≡ v → ⊥)
-      → ((i : ℕ) × (i < suc n) × (g i ≡ v)) ⊎ ((i : ℕ) → i < suc n → g i ≡ v → ⊥)
+        → ((i : ℕ) × (i < suc n) × (g i ≡ v)) ⊎ ((i : ℕ) → i < suc n → g i ≡ v → ⊥)
     step (inl e) _ = inl (n, omega arith, e)
     step (inr ne) (inl f) = inl (f .0, omega arith, f .2)
     step (inr ne) (inr none) = inr (λ i h e. at i h e (cases-eq i n))
@@ -52,6 +52,7 @@ pigeonhole (suc n) g h = split (find g (g (suc n)) (suc n)) (λ below. pigeonhol
         go : ((g i ≡ n) × (swapped g n (g (suc n)) i ≡ g (suc n))) ⊎ ((g i ≡ n → ⊥) × (swapped g n (g (suc n)) i ≡ g i)) → swapped g n (g (suc n)) i < n
         go (inl c) = rw (c .1) (let ne : g (suc n) ≡ n → ⊥ = λ e. none i (omega arith) (c .0 ∙ sym e) in omega (arith, h (suc n) (omega arith)))
         go (inr c) = rw (c .1) (let ne = c .0 in omega (arith, h i (omega arith)))
+
     lift : ((i : ℕ) → i < suc n → g i ≡ g (suc n) → ⊥) → Meet (swapped g n (g (suc n))) n → Meet g (suc n)
     lift none m =
         record {
@@ -63,13 +64,14 @@ pigeonhole (suc n) g h = split (find g (g (suc n)) (suc n)) (λ below. pigeonhol
         }
       where
         go : ((g (m .low) ≡ n) × (swapped g n (g (suc n)) (m .low) ≡ g (suc n))) ⊎ ((g (m .low) ≡ n → ⊥) × (swapped g n (g (suc n)) (m .low) ≡ g (m .low)))
-          → ((g (m .high) ≡ n) × (swapped g n (g (suc n)) (m .high) ≡ g (suc n))) ⊎ ((g (m .high) ≡ n → ⊥) × (swapped g n (g (suc n)) (m .high) ≡ g (m .high)))
-          → g (m .low) ≡ g (m .high)
+            → ((g (m .high) ≡ n) × (swapped g n (g (suc n)) (m .high) ≡ g (suc n))) ⊎ ((g (m .high) ≡ n → ⊥) × (swapped g n (g (suc n)) (m .high) ≡ g (m .high)))
+            → g (m .low) ≡ g (m .high)
         go (inl a) (inl b) = a .0 ∙ sym (b .0)
         go (inl a) (inr b) = absurd (none (m .high) (omega (arith, m .far)) (sym (b .1) ∙ sym (m .agree) ∙ a .1))
         go (inr a) (inl b) = absurd (none (m .low) (omega (arith, m .far, m .apart)) (sym (a .1) ∙ m .agree ∙ b .1))
         go (inr a) (inr b) = sym (a .1) ∙ m .agree ∙ b .1
+
     split : ((i : ℕ) × (i < suc n) × (g i ≡ g (suc n))) ⊎ ((i : ℕ) → i < suc n → g i ≡ g (suc n) → ⊥)
-      → (((i : ℕ) → i ≤ n → swapped g n (g (suc n)) i < n) → Meet (swapped g n (g (suc n))) n) → Meet g (suc n)
+        → (((i : ℕ) → i ≤ n → swapped g n (g (suc n)) i < n) → Meet (swapped g n (g (suc n))) n) → Meet g (suc n)
     split (inl f) rest = record { low = f .0; high = suc n; apart = f .1; far = omega arith; agree = f .2 }
     split (inr none) rest = lift none (rest (lower none))

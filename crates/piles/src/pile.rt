@@ -4,11 +4,11 @@ ghost use mathlib.Core.Path.{_≡_};
 ghost use Rattle.piles.specs.Trees.{layers, tree-meaning, height-of};
 ghost use Rattle.piles.specs.Stacking.{Stacked, LeafMade, ChainMade, TurnedMade, NarrowedMade, highest};
 ghost use Rattle.meanings.proofs.Piles.{pile-lawful};
-use codings::coding::Coding;
-use codings::refusal::AboveTop;
 use crate::error::PileError;
 use crate::tree::Tree;
 use crate::tree::Way;
+use codings::coding::Coding;
+use codings::refusal::AboveTop;
 use std::alloc::Global;
 
 #[derive(Drop)]
@@ -25,7 +25,11 @@ const HIGHEST: u32 = 1000;
 fn allowed(height: u32) -> Result<u32, PileError>
     ensures { λ r. ⌜ Stacked height r (λ n. n ≡ height) ⌝ }
 {
-    if height <= HIGHEST { Ok(height) } else { Err(PileError::TooHigh) }
+    if height <= HIGHEST {
+        Ok(height)
+    } else {
+        Err(PileError::TooHigh)
+    }
 }
 
 impl<C: Coding + Drop> Pile<C> {

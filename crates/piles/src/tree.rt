@@ -103,7 +103,7 @@ impl<C: Coding> Tree<C> {
                     Way::Back => (then, first),
                 };
                 match near.sent(way, x) {
-                    Ok(y) => Ok(far.sent(way, y).unwrap_or(y)),
+                    Ok(met) => Ok(far.sent(way, met).unwrap_or(met)),
                     Err(_) => far.sent(way, x),
                 }
             }

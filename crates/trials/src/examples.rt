@@ -86,7 +86,10 @@ fn narrowed_chain_is_another() -> Result<(), Fail> {
     let a = Plus::new(7, 3)?;
     let b = Plus::new(7, 1)?;
     check_eq(Narrowed::new(Chain::new(a, b), 4).code(1), Ok(1))?;
-    check_eq(Chain::new(Narrowed::new(a, 4), Narrowed::new(b, 4)).code(1), Ok(0))
+    check_eq(
+        Chain::new(Narrowed::new(a, 4), Narrowed::new(b, 4)).code(1),
+        Ok(0),
+    )
 }
 
 // A number that is small enough already is still coded once.
@@ -101,7 +104,14 @@ fn narrowed_takes_a_step() -> Result<(), Fail> {
 
 #[test]
 fn five_laws() -> Result<(), Fail> {
-    let laws = laws_at(&Plus::new(7, 3)?, &Plus::new(3, 1)?, &Clear::new(9), 5, 4, 2);
+    let laws = laws_at(
+        &Plus::new(7, 3)?,
+        &Plus::new(3, 1)?,
+        &Clear::new(9),
+        5,
+        4,
+        2,
+    );
     check_eq(laws.regrouped.left, laws.regrouped.right)?;
     check_eq(laws.regrouped.left, Ok(5))?;
     check_eq(laws.turned_twice.right, Ok(5))?;

@@ -32,7 +32,11 @@ pub impl Coding for Mirror as MirrorCoding {
     }
 
     fn code(&self, x: u64) -> Result<u64, AboveTop> {
-        if x <= self.top { Ok(self.top - x) } else { Err(AboveTop) }
+        if x <= self.top {
+            Ok(self.top - x)
+        } else {
+            Err(AboveTop)
+        }
     }
 
     fn back(&self, y: u64) -> Result<u64, AboveTop> {

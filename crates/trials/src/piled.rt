@@ -18,7 +18,10 @@ use std::test::*;
 fn mirrors(rt: LibcRuntime) -> Result<(), Fail> {
     let heap = rt.alloc();
     let first = Pile::leaf(Mirror::new(9)).narrowed(heap, 7)?;
-    let pile = first.chain(heap, Pile::leaf(Mirror::new(5)))?.turned(heap)?.narrowed(heap, 6)?;
+    let pile = first
+        .chain(heap, Pile::leaf(Mirror::new(5)))?
+        .turned(heap)?
+        .narrowed(heap, 6)?;
     check_eq(pile.height(), 5)?;
     check_eq(pile.top(), 6)?;
     for x in 0..7u64 {

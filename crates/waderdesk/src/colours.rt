@@ -31,7 +31,10 @@ pub fn colour_coding(heap: Global) -> Result<Pile<Plus>, AnyError> {
 
 pub fn tell_all(rt: &impl Print, coding: &Pile<Plus>) -> Result<(), AnyError> {
     let top = coding.top();
-    println!(rt, "plus(999, 123), then plus(499, 77), narrowed to {LAST_COLOUR}: top {top}")?;
+    println!(
+        rt,
+        "plus(999, 123), then plus(499, 77), narrowed to {LAST_COLOUR}: top {top}"
+    )?;
     for colour in COLOURS {
         tell_code(rt, coding, colour)?;
     }
@@ -63,7 +66,14 @@ fn tell_refusal(rt: &impl Print, what: &str, number: u64, refusal: AboveTop) -> 
 
 // Both sides of the five laws at a colour, over the coding, its first part and a coding of few numbers.
 fn tell_laws(rt: &impl Print, coding: &Pile<Plus>, colour: u64) -> Result<(), AnyError> {
-    let sides = laws_at(coding, &Plus::new(999, 123)?, &Plus::new(9, 4)?, 500, 400, colour);
+    let sides = laws_at(
+        coding,
+        &Plus::new(999, 123)?,
+        &Plus::new(9, 4)?,
+        500,
+        400,
+        colour,
+    );
     println!(rt, "the five laws at colour {colour}, left and right side:")?;
     tell_sides(rt, "chains regrouped", sides.regrouped)?;
     tell_sides(rt, "turned twice", sides.turned_twice)?;
