@@ -1,0 +1,4 @@
+pub mod Columnwise
+pub mod Letters
+pub mod Marks
+pub mod Done

@@ -1,0 +1,5 @@
+pub mod Opening
+pub mod Coder
+pub mod Views
+pub mod Calls
+pub mod Handed
