@@ -49,9 +49,9 @@ record-standing s ns false = refl
 stands-same : (s : Setup) (b : List BookRow) (i : ℕ) → stands (length b) (memory-of s b) i ≡ row-stands b i
 stands-same s b i =
     and-same (ltb 0 i) _ _ (λ low. and-same (leb i (length b)) _ _ (λ high.
-        let l = ltb-true 0 i low in
-        let h = leb-true i (length b) high in
-        ap (λ r. r .standing) (memory-at s b (i - 1) (omega arith)) ∙ record-standing s (row-at b i .numbers) (row-at b i .standing)))
+    let l = ltb-true 0 i low in
+    let h = leb-true i (length b) high in
+    ap (λ r. r .standing) (memory-at s b (i - 1) (omega arith)) ∙ record-standing s (row-at b i .numbers) (row-at b i .standing)))
 
 -- as many marks as rows that stand
 count-map : (s : Setup) (b : List BookRow) → count-marks (map (record-of s) b) ≡ count-standing b
@@ -215,9 +215,11 @@ module _ (s : Setup) (taken : ℕ) (memory : List Row) (b : List BookRow) (k : K
   pub put-kept : (xs : List ℕ) → (put-answer s taken memory xs ≡ book-put s b xs) × Keeps s (put-taken s taken memory xs) (put-memory s taken memory xs) (after-put s b xs)
   put-kept xs =
       kept-at s taken memory b k
-        (λ t m. (put-answer s t m xs ≡ book-put s b xs) × Keeps s (put-taken s t m xs) (put-memory s t m xs) (after-put s b xs))
-        (same, subst (λ a. Keeps s (elim a [ Ok n ↦ n | Err e ↦ length b ]) (elim a [ Ok n ↦ new | Err e ↦ memory-of s b ]) (after-put s b xs)) (sym same)
-          (put-ways s (length b) (memory-of s b) new b _ (book-put s b xs) (keeps-put s b xs own) own))
+      (λ t m. (put-answer s t m xs ≡ book-put s b xs) × Keeps s (put-taken s t m xs) (put-memory s t m xs) (after-put s b xs)) (
+        same,
+        subst (λ a. Keeps s (elim a [ Ok n ↦ n | Err e ↦ length b ]) (elim a [ Ok n ↦ new | Err e ↦ memory-of s b ]) (after-put s b xs)) (sym same)
+            (put-ways s (length b) (memory-of s b) new b _ (book-put s b xs) (keeps-put s b xs own) own),
+      )
     where
       own : Keeps s (length b) (memory-of s b) b
       own = keeps-own s taken memory b k
@@ -231,9 +233,11 @@ module _ (s : Setup) (taken : ℕ) (memory : List Row) (b : List BookRow) (k : K
   pub withdraw-kept : (i : ℕ) → (withdraw-answer s taken memory i ≡ book-withdraw s b i) × Keeps s taken (withdraw-memory s taken memory i) (after-withdraw s b i)
   withdraw-kept i =
       kept-at s taken memory b k
-        (λ t m. (withdraw-answer s t m i ≡ book-withdraw s b i) × Keeps s t (withdraw-memory s t m i) (after-withdraw s b i))
-        (same, subst (λ a. Keeps s (length b) (elim a [ Ok n ↦ new | Err e ↦ memory-of s b ]) (after-withdraw s b i)) (sym same)
-          (withdraw-ways s (length b) (memory-of s b) new b _ (book-withdraw s b i) (keeps-withdraw s b i own) own))
+      (λ t m. (withdraw-answer s t m i ≡ book-withdraw s b i) × Keeps s t (withdraw-memory s t m i) (after-withdraw s b i)) (
+        same,
+        subst (λ a. Keeps s (length b) (elim a [ Ok n ↦ new | Err e ↦ memory-of s b ]) (after-withdraw s b i)) (sym same)
+            (withdraw-ways s (length b) (memory-of s b) new b _ (book-withdraw s b i) (keeps-withdraw s b i own) own),
+      )
     where
       own : Keeps s (length b) (memory-of s b) b
       own = keeps-own s taken memory b k
@@ -249,11 +253,11 @@ module _ (s : Setup) (taken : ℕ) (memory : List Row) (b : List BookRow) (k : K
   pub show-kept : (i column : ℕ) → show-answer s taken memory i column ≡ book-show s b i column
   show-kept i column =
       kept-at s taken memory b k (λ t m. show-answer s t m i column ≡ book-show s b i column)
-        (ask-yes (eqb (length (memory-of s b)) (s .records)) _ _ (length-asked s b (k .fits))
-        ∙ ap (λ t. ask t NotStanding (ask (ltb column (length (s .roles))) NoSuchColumn (Ok code))) (stands-same s b i)
-        ∙ ask-same (row-stands b i) NotStanding _ _ (λ st. ask-same (ltb column (length (s .roles))) NoSuchColumn _ _ (λ lt.
-            let fit = all-getD (Fit s) b (i - 1) no-row (row-stands-parts b i st .0) (k .rows) in
-            ap (λ n. Ok n) (entry-at s b i column (fit .0) st (ltb-true column (length (s .roles)) lt)))))
+      (ask-yes (eqb (length (memory-of s b)) (s .records)) _ _ (length-asked s b (k .fits))
+      ∙ ap (λ t. ask t NotStanding (ask (ltb column (length (s .roles))) NoSuchColumn (Ok code))) (stands-same s b i)
+      ∙ ask-same (row-stands b i) NotStanding _ _ (λ st. ask-same (ltb column (length (s .roles))) NoSuchColumn _ _ (λ lt.
+      let fit = all-getD (Fit s) b (i - 1) no-row (row-stands-parts b i st .0) (k .rows) in
+      ap (λ n. Ok n) (entry-at s b i column (fit .0) st (ltb-true column (length (s .roles)) lt)))))
     where
       code : ℕ
       code = getD (record-at (memory-of s b) i .numbers) column 0
@@ -261,14 +265,14 @@ module _ (s : Setup) (taken : ℕ) (memory : List Row) (b : List BookRow) (k : K
   pub turn-back-kept : Lawful (s .yarn) → Lawful (s .hands) → (i column : ℕ) → turn-back-answer s taken memory i column ≡ book-turn-back s b i column
   turn-back-kept ly lh i column =
       kept-at s taken memory b k (λ t m. turn-back-answer s t m i column ≡ book-turn-back s b i column)
-        (ask-yes (eqb (length (memory-of s b)) (s .records)) _ _ (length-asked s b (k .fits))
-        ∙ ap (λ t. ask t NotStanding (ask (ltb column (length (s .roles))) NoSuchColumn (turned code))) (stands-same s b i)
-        ∙ ask-same (row-stands b i) NotStanding _ _ (λ st. ask-same (ltb column (length (s .roles))) NoSuchColumn _ _ (λ lt.
-            let fit = all-getD (Fit s) b (i - 1) no-row (row-stands-parts b i st .0) (k .rows) in
-            let h = ltb-true column (length (s .roles)) lt in
-            let low = within-at s (s .roles) (row-at b i .numbers) column h (fit .0) (fit .1) in
-            ap turned (entry-at s b i column (fit .0) st h)
-            ∙ ap (λ n. ask (leb (entry-code s b i column) (coding .top)) AboveTop (Ok n)) (coding-lawful s ly lh (getD (s .roles) column Clear) .undoes (getD (row-at b i .numbers) column 0) low))))
+      (ask-yes (eqb (length (memory-of s b)) (s .records)) _ _ (length-asked s b (k .fits))
+      ∙ ap (λ t. ask t NotStanding (ask (ltb column (length (s .roles))) NoSuchColumn (turned code))) (stands-same s b i)
+      ∙ ask-same (row-stands b i) NotStanding _ _ (λ st. ask-same (ltb column (length (s .roles))) NoSuchColumn _ _ (λ lt.
+      let fit = all-getD (Fit s) b (i - 1) no-row (row-stands-parts b i st .0) (k .rows) in
+      let h = ltb-true column (length (s .roles)) lt in
+      let low = within-at s (s .roles) (row-at b i .numbers) column h (fit .0) (fit .1) in
+      ap turned (entry-at s b i column (fit .0) st h)
+      ∙ ap (λ n. ask (leb (entry-code s b i column) (coding .top)) AboveTop (Ok n)) (coding-lawful s ly lh (getD (s .roles) column Clear) .undoes (getD (row-at b i .numbers) column 0) low))))
     where
       code : ℕ
       code = getD (record-at (memory-of s b) i .numbers) column 0
@@ -282,5 +286,5 @@ module _ (s : Setup) (taken : ℕ) (memory : List Row) (b : List BookRow) (k : K
   pub tally-kept : tally-answer s taken memory ≡ book-tally s b
   tally-kept =
       kept-at s taken memory b k (λ t m. tally-answer s t m ≡ book-tally s b)
-        (ask-yes (eqb (length (memory-of s b)) (s .records)) _ _ (length-asked s b (k .fits))
-        ∙ ap (λ n. Ok (length b, n)) (count-same s b))
+      (ask-yes (eqb (length (memory-of s b)) (s .records)) _ _ (length-asked s b (k .fits))
+      ∙ ap (λ n. Ok (length b, n)) (count-same s b))

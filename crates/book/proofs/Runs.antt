@@ -62,7 +62,7 @@ module _ (s : Setup) (ly : Lawful (s .yarn)) (lh : Lawful (s .hands)) where
   coding-lawful Clear = clear-lawful _
 
   pub call-kept : (st : State) (b : List BookRow) (c : Asked) → Keeps s (st .taken) (st .memory) b
-    → (answer s st c ≡ book-answer s b c) × Keeps s (after s st c .taken) (after s st c .memory) (book-after s b c)
+      → (answer s st c ≡ book-answer s b c) × Keeps s (after s st c .taken) (after s st c .memory) (book-after s b c)
   call-kept st b (put xs) k = let p = put-kept s (st .taken) (st .memory) b k xs in (ap (told Put) (p .0), p .1)
   call-kept st b (withdraw i) k = let p = withdraw-kept s (st .taken) (st .memory) b k i in (ap (told (λ _. Withdrawn)) (p .0), p .1)
   call-kept st b (show i c) k = (ap (told Shown) (show-kept s (st .taken) (st .memory) b k i c), k)
@@ -71,23 +71,23 @@ module _ (s : Setup) (ly : Lawful (s .yarn)) (lh : Lawful (s .hands)) where
 
   pub promise-kept : (st : State) (b : List BookRow) → Keeps s (st .taken) (st .memory) b → Promise s st b
   promise-kept st b k = record {
-      shows = shown;
-      turns-back = λ i c e. turn-back-kept s (st .taken) (st .memory) b k ly lh i c
+    shows = shown;
+    turns-back = λ i c e. turn-back-kept s (st .taken) (st .memory) b k ly lh i c
         ∙ ask-yes (row-stands b i) _ _ (e .row)
         ∙ ask-yes (ltb c (length (s .roles))) _ _ (lt-ltb c (length (s .roles)) (e .place))
         ∙ ask-yes (leb (entry-code s b i c) (entry-coding s c .top)) _ _
-            (le-leb (entry-code s b i c) (entry-coding s c .top) (lawful c .within (entry-number s b i c) (low i c e)));
-      only-standing = λ i c n h.
+        (le-leb (entry-code s b i c) (entry-coding s c .top) (lawful c .within (entry-number s b i c) (low i c e)));
+    only-standing = λ i c n h.
         let p = ask-ok (row-stands b i) _ _ n (sym (turn-back-kept s (st .taken) (st .memory) b k ly lh i c) ∙ h) in
         let q = ask-ok (ltb c (length (s .roles))) _ _ n (p .1) in
         record { row = p .0; place = ltb-true c (length (s .roles)) (q .0) };
-      tallies = tally-kept s (st .taken) (st .memory) b k;
-      equal-codes = λ i j c d x y e f same hx hy.
+    tallies = tally-kept s (st .taken) (st .memory) b k;
+    equal-codes = λ i j c d x y e f same hx hy.
         let ex = ok-same _ x (entry-coding s c .rule (entry-number s b i c)) hx (shown i c e) in
         let ey = ok-same _ y (entry-coding s d .rule (entry-number s b j d)) hy (shown j d f) in
         let p = codes-same (entry-coding s c) (entry-coding s d) (lawful d) same (entry-number s b i c) (entry-number s b j d) (low i c e) (low j d f) in
         (λ h. p .0 (sym ex ∙ h ∙ ey), λ h. ex ∙ p .1 h ∙ sym ey);
-    }
+  }
     where
       lawful : (c : ℕ) → Lawful (entry-coding s c)
       lawful c = coding-lawful (getD (s .roles) c Clear)

@@ -102,8 +102,8 @@ module _ (s : Setup) where
     pub only-standing : (i c n : ℕ) → turn-back-answer s (st .taken) (st .memory) i c ≡ Ok n → Entry b i c
     pub tallies : tally-answer s (st .taken) (st .memory) ≡ Ok (length b, count-standing b)
     pub equal-codes : (i j c d x y : ℕ) → Entry b i c → Entry b j d → Same (entry-coding c) (entry-coding d)
-      → show-answer s (st .taken) (st .memory) i c ≡ Ok x → show-answer s (st .taken) (st .memory) j d ≡ Ok y
-      → (x ≡ y → entry-number b i c ≡ entry-number b j d) × (entry-number b i c ≡ entry-number b j d → x ≡ y)
+        → show-answer s (st .taken) (st .memory) i c ≡ Ok x → show-answer s (st .taken) (st .memory) j d ≡ Ok y
+        → (x ≡ y → entry-number b i c ≡ entry-number b j d) × (entry-number b i c ≡ entry-number b j d → x ≡ y)
 
   -- After any list of calls on a release that the book b keeps: every answer is the book's, the book after
   -- the list keeps what is left, and so the promise holds.

@@ -1,6 +1,9 @@
 // Why a call on a release is refused.
 ghost use mathlib.Core.Path.{_≡_};
-ghost use Rattle.book.specs.Refusals.{number-of};
+ghost use Rattle.book.specs.Refusals.{number-of, words-of};
+ghost use Rattle.std.specs.declared.option.Option.the-variants.{Some as Shown};
+use std::error::Error;
+use std::fmt;
 
 #[derive(Clone, Copy, PartialEq, Eq, Debug)]
 pub enum Refusal {
@@ -40,4 +43,31 @@ impl Refusal {
             Refusal::NoSuchColumn => 21,
         }
     }
+
+    pub fn words(self) -> &'static str
+        ensures { λ r. ⌜ now r ≡ words-of self ⌝ }
+    {
+        match self {
+            Refusal::AboveTop => "the number is above the coding's top",
+            Refusal::Columns => "a release has 1 to 8 columns",
+            Refusal::RoleLetter => "a role letter is Y, H or C",
+            Refusal::RowRecords => "a release has 1 to 4096 row records",
+            Refusal::MemoryLength =>
+                "the row memory has not the length that the release was opened with",
+            Refusal::NumberCount => "a row has one number for each column",
+            Refusal::NoPlaceFree => "no place is free",
+            Refusal::NotStanding => "the row is not standing",
+            Refusal::NoSuchColumn => "there is no such column",
+        }
+    }
 }
+
+pub impl fmt::Display for Refusal as RefusalDisplay {
+    ghost shown = { λ s. Shown (words-of s) };
+
+    fn fmt<W: fmt::Write>(&self, f: &mut fmt::Formatter<W>) -> fmt::Result {
+        f.pad(self.words())
+    }
+}
+
+pub impl Error for Refusal as RefusalError {}

@@ -49,12 +49,12 @@ module _ (y h : Meaning) where
   to-come rs xs cs n = ask (within-in y h rs xs) AboveTop (Ok (cs ++ (codes-in y h rs xs ++ replicate (8 - n) 0)))
 
   to-come-code : (r : Role) (x : ℕ) (rs : List Role) (xs cs : List ℕ) (n : ℕ) → x ≤ coding-in y h r .top
-    → to-come (r ∷ rs) (x ∷ xs) cs n ≡ to-come rs xs (cs ++ coding-in y h r .rule x ∷ []) n
+      → to-come (r ∷ rs) (x ∷ xs) cs n ≡ to-come rs xs (cs ++ coding-in y h r .rule x ∷ []) n
   to-come-code r x rs xs cs n le =
       rw (le-leb x (coding-in y h r .top) le) (ap (λ zs. ask (within-in y h rs xs) AboveTop (Ok zs)) (sym (append-assoc cs (coding-in y h r .rule x ∷ []) (codes-in y h rs xs ++ replicate (8 - n) 0))))
 
   to-come-above : (r : Role) (x : ℕ) (rs : List Role) (xs cs : List ℕ) (n : ℕ) → coding-in y h r .top < x
-    → to-come (r ∷ rs) (x ∷ xs) cs n ≡ Err AboveTop
+      → to-come (r ∷ rs) (x ∷ xs) cs n ≡ Err AboveTop
   to-come-above r x rs xs cs n lt = rw (lt-leb x (coding-in y h r .top) lt)
 
   -- After j columns the record has their codes and then zeros, and what is to come is the row's answer.

@@ -42,10 +42,10 @@ module _ (ls : List ℕ) where
       record {
         eight = length-set rs j r ∙ k .eight;
         comes = k .comes
-          ∙ ap (λ zs. in-front (take j rs) (roles-of zs)) (drop-more ls j 0 lt)
-          ∙ ap (in-front (take j rs)) (roles-good (getD ls j 0) (drop (j + 1) ls) r e)
-          ∙ front-front (take j rs) (r ∷ []) (roles-of (drop (j + 1) ls))
-          ∙ ap (λ zs. in-front zs (roles-of (drop (j + 1) ls))) (sym (take-more-set rs j r room));
+            ∙ ap (λ zs. in-front (take j rs) (roles-of zs)) (drop-more ls j 0 lt)
+            ∙ ap (in-front (take j rs)) (roles-good (getD ls j 0) (drop (j + 1) ls) r e)
+            ∙ front-front (take j rs) (r ∷ []) (roles-of (drop (j + 1) ls))
+            ∙ ap (λ zs. in-front zs (roles-of (drop (j + 1) ls))) (sym (take-more-set rs j r room));
       }
 
   pub read-bad : (j : ℕ) (rs : List Role) (d : Refusal) → j < length ls → Read j rs → Err d ≡ role-read (getD ls j 0) → roles-of ls ≡ Err d

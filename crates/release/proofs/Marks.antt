@@ -42,31 +42,32 @@ module _ (taken : ℕ) (memory : List Row) (i : ℕ) where
 
 -- an entry read at its place is what show answers
 pub shown : (s : Setup) (taken : ℕ) (memory : List Row) (i column p : ℕ) (d : Row)
-  → length memory ≡ s .records → stands taken memory i ≡ true → p ≡ i - 1 → p < length memory → column < length (s .roles)
-  → Ok (getD (getD memory p d .numbers) column 0) ≡ show-answer s taken memory i column
+    → length memory ≡ s .records → stands taken memory i ≡ true → p ≡ i - 1 → p < length memory → column < length (s .roles)
+    → Ok (getD (getD memory p d .numbers) column 0) ≡ show-answer s taken memory i column
 shown s taken memory i column p d long stand place here exists =
     let same : getD memory p d ≡ record-at memory i = getD-default memory p d blank here ∙ ap (λ n. getD memory n blank) place in
     sym (ask-yes (eqb (length memory) (s .records)) _ _ (eq-eqb (length memory) (s .records) long)
-      ∙ ask-yes (stands taken memory i) _ _ stand
-      ∙ ask-yes (ltb column (length (s .roles))) _ _ (lt-ltb column (length (s .roles)) exists)
-      ∙ ap (λ r. Ok (getD (r .numbers) column 0)) (sym same))
+    ∙ ask-yes (stands taken memory i) _ _ stand
+    ∙ ask-yes (ltb column (length (s .roles))) _ _ (lt-ltb column (length (s .roles)) exists)
+    ∙ ap (λ r. Ok (getD (r .numbers) column 0)) (sym same))
 
 -- what turn back answers where show answered this code, under the same roles and as many records
 pub turned-back : (s t : Setup) (taken : ℕ) (memory : List Row) (i column code : ℕ) → t .roles ≡ s .roles → t .records ≡ s .records
-  → Ok code ≡ show-answer t taken memory i column
-  → (column < length (s .roles)) × (one-back (coding-of s (getD (s .roles) column Clear)) code ≡ turn-back-answer s taken memory i column)
+    → Ok code ≡ show-answer t taken memory i column
+    → (column < length (s .roles)) × (one-back (coding-of s (getD (s .roles) column Clear)) code ≡ turn-back-answer s taken memory i column)
 turned-back s t taken memory i column code roles records e =
     let a = ask-ok (eqb (length memory) (t .records)) _ _ code (sym e) in
     let b = ask-ok (stands taken memory i) _ _ code (a .1) in
     let c = ask-ok (ltb column (length (t .roles))) _ _ code (b .1) in
     let found : getD (record-at memory i .numbers) column 0 ≡ code = let f = c .1 in cc in
     let coding = coding-of s (getD (s .roles) column Clear) in
-    let exists : ltb column (length (s .roles)) ≡ true = rw (sym roles) (c .0) in
-    (ltb-true column (length (s .roles)) exists,
+    let exists : ltb column (length (s .roles)) ≡ true = rw (sym roles) (c .0) in (
+      ltb-true column (length (s .roles)) exists,
       sym (ask-yes (eqb (length memory) (s .records)) _ _ (rw (sym records) (a .0))
-        ∙ ask-yes (stands taken memory i) _ _ (b .0)
-        ∙ ask-yes (ltb column (length (s .roles))) _ _ exists
-        ∙ ap (one-back coding) found))
+          ∙ ask-yes (stands taken memory i) _ _ (b .0)
+          ∙ ask-yes (ltb column (length (s .roles))) _ _ exists
+          ∙ ap (one-back coding) found),
+    )
 
 -- the records given out, where there may be fewer in memory
 pub given-out : (taken : ℕ) (memory : List Row) → take (min taken (length memory)) memory ≡ take taken memory
@@ -78,7 +79,7 @@ given-out taken memory = go (cases-lt taken (length memory))
 
 -- one record more of those counted
 pub count-next : (records : List Row) (j : ℕ) (d : Row) (t : Bool) → j < length records → getD records j d .standing ≡ t
-  → count-marks (drop j records) ≡ elim t [ true ↦ suc (count-marks (drop (j + 1) records)) | false ↦ count-marks (drop (j + 1) records) ]
+    → count-marks (drop j records) ≡ elim t [ true ↦ suc (count-marks (drop (j + 1) records)) | false ↦ count-marks (drop (j + 1) records) ]
 count-next records j d t lt e =
     ap count-marks (drop-more records j d lt) ∙ ap (λ (b : Bool). elim b [ true ↦ suc (count-marks (drop (j + 1) records)) | false ↦ count-marks (drop (j + 1) records) ]) e
 

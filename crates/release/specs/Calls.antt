@@ -41,13 +41,13 @@ module _ (o : Plain) (memory : List Row) where
     pub release : o′ ≡ with-taken o (put-taken (setup-of o y h) (o .taken) memory xs)
     pub rows : memory′ ≡ put-memory (setup-of o y h) (o .taken) memory xs
     pub book : (b : List BookRow) → Keeps (setup-of o y h) (o .taken) memory b
-      → (r ≡ book-put (setup-of o y h) b xs) × Keeps (setup-of o′ y h) (o′ .taken) memory′ (after-put (setup-of o y h) b xs)
+        → (r ≡ book-put (setup-of o y h) b xs) × Keeps (setup-of o′ y h) (o′ .taken) memory′ (after-put (setup-of o y h) b xs)
 
   pub record WithdrawDone (i : ℕ) (r : Result (Unit {0}) Refusal) (memory′ : List Row) : Type 0 where
     pub answer : r ≡ withdraw-answer (plain-setup o) (o .taken) memory i
     pub rows : memory′ ≡ withdraw-memory (plain-setup o) (o .taken) memory i
     pub book : (y h : Meaning) (b : List BookRow) → Keeps (setup-of o y h) (o .taken) memory b
-      → (r ≡ book-withdraw (setup-of o y h) b i) × Keeps (setup-of o y h) (o .taken) memory′ (after-withdraw (setup-of o y h) b i)
+        → (r ≡ book-withdraw (setup-of o y h) b i) × Keeps (setup-of o y h) (o .taken) memory′ (after-withdraw (setup-of o y h) b i)
 
   pub record ShowDone (i column : ℕ) (r : Result ℕ Refusal) : Type 0 where
     pub answer : r ≡ show-answer (plain-setup o) (o .taken) memory i column

@@ -3,3 +3,5 @@ pub mod Coder
 pub mod Views
 pub mod Calls
 pub mod Handed
+pub mod Listed
+pub mod Promises

@@ -15,7 +15,7 @@ use codings::coding::Coding;
 
 impl Plain {
     // The questions of opening: 1 to 8 columns (14), role letters (15), 1 to 4096 row records (16).
-    fn opened(letters: &[char], memory: &mut [Row]) -> Result<Plain, Refusal>
+    pub(crate) fn opened(letters: &[char], memory: &mut [Row]) -> Result<Plain, Refusal>
         ensures { λ r. ⌜ Opened (now (letters .entry)) (now (memory .entry)) r (now (memory .exit)) ⌝ }
     {
         let columns = read_columns(letters)?;
@@ -24,7 +24,11 @@ impl Plain {
             return Err(Refusal::RowRecords);
         }
         blank_all(memory);
-        Ok(Plain { columns, records, taken: 0 })
+        Ok(Plain {
+            columns,
+            records,
+            taken: 0,
+        })
     }
 }
 
@@ -40,7 +44,13 @@ impl Open {
     }
 
     // Puts a row, a number for each column, at the next place, and answers its number, counted from 1.
-    pub fn put<Y: Coding, H: Coding>(&mut self, memory: &mut [Row], yarn: &Y, hands: &H, numbers: &[u64]) -> Result<usize, Refusal>
+    pub fn put<Y: Coding, H: Coding>(
+        &mut self,
+        memory: &mut [Row],
+        yarn: &Y,
+        hands: &H,
+        numbers: &[u64],
+    ) -> Result<usize, Refusal>
         ensures { λ r. ⌜ PutDone (now (self .entry) .plain) (now (memory .entry)) (Y·Coding .means (now (yarn .entry))) (H·Coding .means (now (hands .entry))) (now (numbers .entry)) r (now (self .exit) .plain) (now (memory .exit)) ⌝ }
     {
         self.plain.put_row(memory, yarn, hands, numbers)
@@ -62,7 +72,14 @@ impl Open {
     }
 
     // The number whose code stands in a row and a column.
-    pub fn turn_back<Y: Coding, H: Coding>(&self, memory: &[Row], yarn: &Y, hands: &H, row: usize, column: usize) -> Result<u64, Refusal>
+    pub fn turn_back<Y: Coding, H: Coding>(
+        &self,
+        memory: &[Row],
+        yarn: &Y,
+        hands: &H,
+        row: usize,
+        column: usize,
+    ) -> Result<u64, Refusal>
         ensures { λ r. ⌜ TurnBackDone (now (self .entry) .plain) (now (memory .entry)) (Y·Coding .means (now (yarn .entry))) (H·Coding .means (now (hands .entry))) row column r ⌝ }
     {
         self.plain.turn_code(memory, yarn, hands, row, column)

@@ -11,7 +11,12 @@ use codings::clear::ClearCoding;
 use codings::coding::Coding;
 
 // The code of x in a column of this role.
-pub fn code_in<Y: Coding, H: Coding>(role: Role, yarn: &Y, hands: &H, x: u64) -> Result<u64, Refusal>
+pub fn code_in<Y: Coding, H: Coding>(
+    role: Role,
+    yarn: &Y,
+    hands: &H,
+    x: u64,
+) -> Result<u64, Refusal>
     ensures { λ r. ⌜ r ≡ one-coded (coding-in (Y·Coding .means (now (yarn .entry))) (H·Coding .means (now (hands .entry))) role) x ⌝ }
 {
     match role {
@@ -22,7 +27,12 @@ pub fn code_in<Y: Coding, H: Coding>(role: Role, yarn: &Y, hands: &H, x: u64) ->
 }
 
 // The number whose code in a column of this role is y.
-pub fn back_in<Y: Coding, H: Coding>(role: Role, yarn: &Y, hands: &H, y: u64) -> Result<u64, Refusal>
+pub fn back_in<Y: Coding, H: Coding>(
+    role: Role,
+    yarn: &Y,
+    hands: &H,
+    y: u64,
+) -> Result<u64, Refusal>
     ensures { λ r. ⌜ r ≡ one-back (coding-in (Y·Coding .means (now (yarn .entry))) (H·Coding .means (now (hands .entry))) role) y ⌝ }
 {
     match role {
@@ -51,7 +61,12 @@ fn backed<C: Coding>(coding: &C, y: u64) -> Result<u64, Refusal>
 }
 
 // The numbers of the record of a row: its codes, with zeros after them.
-pub fn coded_row<Y: Coding, H: Coding>(roles: &[Role], yarn: &Y, hands: &H, numbers: &[u64]) -> Result<[u64; 8], Refusal>
+pub fn coded_row<Y: Coding, H: Coding>(
+    roles: &[Role],
+    yarn: &Y,
+    hands: &H,
+    numbers: &[u64],
+) -> Result<[u64; 8], Refusal>
     requires few { ⌜ length (now roles) ≤ 8 ⌝ }
     requires each { ⌜ length (now numbers) ≡ length (now roles) ⌝ }
     ensures { λ r. ⌜ r ≡ row-coded (Y·Coding .means (now (yarn .entry))) (H·Coding .means (now (hands .entry))) (now (roles .entry)) (now (numbers .entry)) ⌝ }

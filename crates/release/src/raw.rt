@@ -11,7 +11,10 @@ use book::refusal::Refusal;
 use book::row::Row;
 use codings::coding::Coding;
 
-const BLANK: Row = Row { numbers: [0; 8], standing: false };
+const BLANK: Row = Row {
+    numbers: [0; 8],
+    standing: false,
+};
 
 // The place of the record of this row, where the row stands: its number was given out and its record has the
 // mark.
@@ -25,11 +28,21 @@ pub(crate) fn standing_place(taken: usize, memory: &[Row], row: usize) -> Option
         return None;
     }
     let place = row - 1;
-    if memory[place].standing { Some(place) } else { None }
+    if memory[place].standing {
+        Some(place)
+    } else {
+        None
+    }
 }
 
 impl Plain {
-    pub(crate) fn put_row<Y: Coding, H: Coding>(&mut self, memory: &mut [Row], yarn: &Y, hands: &H, numbers: &[u64]) -> Result<usize, Refusal>
+    pub(crate) fn put_row<Y: Coding, H: Coding>(
+        &mut self,
+        memory: &mut [Row],
+        yarn: &Y,
+        hands: &H,
+        numbers: &[u64],
+    ) -> Result<usize, Refusal>
         ensures answer { λ r. ⌜ r ≡ put-answer (setup-of (now (self .entry)) (Y·Coding .means (now (yarn .entry))) (H·Coding .means (now (hands .entry)))) (now (self .entry) .taken) (now (memory .entry)) (now (numbers .entry)) ⌝ }
         ensures memory { λ _. ⌜ now (memory .exit) ≡ put-memory (setup-of (now (self .entry)) (Y·Coding .means (now (yarn .entry))) (H·Coding .means (now (hands .entry)))) (now (self .entry) .taken) (now (memory .entry)) (now (numbers .entry)) ⌝ }
         ensures release { λ _. ⌜ now (self .exit) ≡ with-taken (now (self .entry)) (put-taken (setup-of (now (self .entry)) (Y·Coding .means (now (yarn .entry))) (H·Coding .means (now (hands .entry)))) (now (self .entry) .taken) (now (memory .entry)) (now (numbers .entry))) ⌝ }
@@ -44,7 +57,10 @@ impl Plain {
             return Err(Refusal::NoPlaceFree);
         }
         let codes = coded_row(self.columns.as_slice(), yarn, hands, numbers)?;
-        memory[self.taken] = Row { numbers: codes, standing: true };
+        memory[self.taken] = Row {
+            numbers: codes,
+            standing: true,
+        };
         self.taken += 1;
         Ok(self.taken)
     }
@@ -63,7 +79,12 @@ impl Plain {
         Ok(())
     }
 
-    pub(crate) fn show_code(&self, memory: &[Row], row: usize, column: usize) -> Result<u64, Refusal>
+    pub(crate) fn show_code(
+        &self,
+        memory: &[Row],
+        row: usize,
+        column: usize,
+    ) -> Result<u64, Refusal>
         ensures { λ r. ⌜ r ≡ show-answer (plain-setup (now (self .entry))) (now (self .entry) .taken) (now (memory .entry)) row column ⌝ }
     {
         if memory.len() != self.records {
@@ -88,7 +109,14 @@ impl Plain {
         Ok((self.taken, marks(given_out)))
     }
 
-    pub(crate) fn turn_code<Y: Coding, H: Coding>(&self, memory: &[Row], yarn: &Y, hands: &H, row: usize, column: usize) -> Result<u64, Refusal>
+    pub(crate) fn turn_code<Y: Coding, H: Coding>(
+        &self,
+        memory: &[Row],
+        yarn: &Y,
+        hands: &H,
+        row: usize,
+        column: usize,
+    ) -> Result<u64, Refusal>
         ensures { λ r. ⌜ r ≡ turn-back-answer (setup-of (now (self .entry)) (Y·Coding .means (now (yarn .entry))) (H·Coding .means (now (hands .entry)))) (now (self .entry) .taken) (now (memory .entry)) row column ⌝ }
     {
         let code = self.show_code(memory, row, column)?;

@@ -14,8 +14,8 @@ loop-record-holds c = (zero-add _, omega arith)
 pub loop-record-again : need.loop-record-again
 loop-record-again c =
     elim (c .if-record .came) [
-      then-record w ↦ let n = count-next (c .args .records .now) (c .loop-record .record-index) _ _ (c .loop-record-test .taken) (w .if-record .taken) in omega (arith, w .standing-is, n)
-    | else-record w ↦ let n = count-next (c .args .records .now) (c .loop-record .record-index) _ _ (c .loop-record-test .taken) (w .if-record .left) in omega (arith, w .standing-is, n)
+      | then-record w ↦ let n = count-next (c .args .records .now) (c .loop-record .record-index) _ _ (c .loop-record-test .taken) (w .if-record .taken) in omega (arith, w .standing-is, n)
+      | else-record w ↦ let n = count-next (c .args .records .now) (c .loop-record .record-index) _ _ (c .loop-record-test .taken) (w .if-record .left) in omega (arith, w .standing-is, n)
     ]
 
 pub returns : need.returns
