@@ -8,7 +8,7 @@ use native.Mathlib.Omega.{arith}
 use lib.Dec.{ltb, leb, eqb}
 use lib.ListN.{length, getD, take, drop, length-take}
 use Rattle.std.proofs.shelf.Lists.{getD-default, getD-past, getD-take, take-all, drop-more}
-use Rattle.std.proofs.shelf.Tests.{cases-lt, lt-ltb, le-ltb, le-leb, lt-leb, ltb-true, eq-eqb}
+use Rattle.std.proofs.shelf.Tests.{cases-lt, lt-ltb, le-ltb, le-leb, lt-leb, ltb-true}
 use Rattle.book.specs.declared.row.Row.{Row}
 use Rattle.book.specs.Raw.{stands, record-at, count-marks, show-answer, turn-back-answer}
 use Rattle.book.specs.Rows.{Setup, coding-of, blank}
@@ -40,16 +40,9 @@ module _ (taken : ℕ) (memory : List Row) (i : ℕ) where
       let same : record-at memory i ≡ getD memory (i - 1) d = getD-default memory (i - 1) blank d (omega arith) in
       rw (stands, lt-ltb 0 i one, le-leb i taken le, same) e
 
--- an entry read at its place is what show answers
-pub shown : (s : Setup) (taken : ℕ) (memory : List Row) (i column p : ℕ) (d : Row)
-    → length memory ≡ s .records → stands taken memory i ≡ true → p ≡ i - 1 → p < length memory → column < length (s .roles)
-    → Ok (getD (getD memory p d .numbers) column 0) ≡ show-answer s taken memory i column
-shown s taken memory i column p d long stand place here exists =
-    let same : getD memory p d ≡ record-at memory i = getD-default memory p d blank here ∙ ap (λ n. getD memory n blank) place in
-    sym (ask-yes (eqb (length memory) (s .records)) _ _ (eq-eqb (length memory) (s .records) long)
-    ∙ ask-yes (stands taken memory i) _ _ stand
-    ∙ ask-yes (ltb column (length (s .roles))) _ _ (lt-ltb column (length (s .roles)) exists)
-    ∙ ap (λ r. Ok (getD (r .numbers) column 0)) (sym same))
+-- a record read at its place
+pub record-there : (memory : List Row) (i p : ℕ) (d : Row) → p ≡ i - 1 → p < length memory → getD memory p d ≡ record-at memory i
+record-there memory i p d place here = getD-default memory p d blank here ∙ ap (λ n. getD memory n blank) place
 
 -- what turn back answers where show answered this code, under the same roles and as many records
 pub turned-back : (s t : Setup) (taken : ℕ) (memory : List Row) (i column code : ℕ) → t .roles ≡ s .roles → t .records ≡ s .records

@@ -8,7 +8,7 @@ use Rattle.std.specs.declared.option.Option.{Option}
 use Rattle.std.specs.declared.option.Option.the-variants.{None, Some}
 use Rattle.meanings.specs.Meaning.{Meaning}
 use Rattle.meanings.specs.Supplied.{clear}
-use Rattle.book.specs.Raw.{stands}
+use Rattle.book.specs.Raw.{record-at, stands}
 use Rattle.book.specs.declared.role.Role.{Role}
 use Rattle.book.specs.declared.row.Row.{Row}
 use Rattle.book.specs.Rows.{Setup}
@@ -34,3 +34,8 @@ with-taken o n = record { columns = o .columns; records = o .records; taken = n 
 abbrev pub Standing : (taken : ℕ) → List Row → ℕ → Option ℕ → Type 0
 Standing taken memory i None = stands taken memory i ≡ false
 Standing taken memory i (Some p) = (stands taken memory i ≡ true) × (p ≡ i - 1) × (p < length memory)
+
+-- The record of the row numbered i, where that row stands.
+abbrev pub StandingRecord : (taken : ℕ) → List Row → ℕ → Option Row → Type 0
+StandingRecord taken memory i None = stands taken memory i ≡ false
+StandingRecord taken memory i (Some r) = (stands taken memory i ≡ true) × (r ≡ record-at memory i)

@@ -1,6 +1,6 @@
 // The codes of a row, column by column.
 ghost use Prim.Native.Nat.{_≤_};
-ghost use lib.ListN.{length};
+ghost use lib.ListN.{length, replicate};
 ghost use mathlib.Core.Path.{_≡_};
 ghost use Rattle.book.specs.Rows.{coding-in};
 ghost use Rattle.release.specs.Coder.{one-coded, one-back, row-coded};
@@ -60,6 +60,13 @@ fn backed<C: Coding>(coding: &C, y: u64) -> Result<u64, Refusal>
     }
 }
 
+// What stands after the codes of a row.
+fn zeros() -> [u64; 8]
+    ensures { λ r. ⌜ r ≡ replicate 8 0 ⌝ }
+{
+    [0; 8]
+}
+
 // The numbers of the record of a row: its codes, with zeros after them.
 pub fn coded_row<Y: Coding, H: Coding>(
     roles: &[Role],
@@ -71,7 +78,7 @@ pub fn coded_row<Y: Coding, H: Coding>(
     requires each { ⌜ length (now numbers) ≡ length (now roles) ⌝ }
     ensures { λ r. ⌜ r ≡ row-coded (Y·Coding .means (now (yarn .entry))) (H·Coding .means (now (hands .entry))) (now (roles .entry)) (now (numbers .entry)) ⌝ }
 {
-    let mut codes = [0; 8];
+    let mut codes = zeros();
     for j in 0..roles.len() {
         codes[j] = code_in(roles[j], yarn, hands, numbers[j])?;
     }

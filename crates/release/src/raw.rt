@@ -1,9 +1,10 @@
 // The bodies of the calls, by the questions that they ask in sequence; the first no decides.
 ghost use mathlib.Core.Path.{_≡_};
-ghost use lib.ListN.{length, replicate};
+ghost use lib.ListN.{length, replicate, take};
 ghost use Rattle.book.specs.Raw.{stands, put-answer, put-memory, put-taken, withdraw-answer, withdraw-memory, show-answer, turn-back-answer, tally-answer, count-marks};
 ghost use Rattle.book.specs.Rows.{blank};
-ghost use Rattle.release.specs.Views.{setup-of, plain-setup, with-taken, Standing};
+ghost use Rattle.release.specs.Views.{setup-of, plain-setup, with-taken, Standing, StandingRecord};
+ghost use Rattle.std.specs.Options.{mapped};
 use crate::coder::back_in;
 use crate::coder::coded_row;
 use crate::plain::Plain;
@@ -32,6 +33,16 @@ pub(crate) fn standing_place(taken: usize, memory: &[Row], row: usize) -> Option
         Some(place)
     } else {
         None
+    }
+}
+
+// The record of this row, where the row stands.
+fn standing_record(taken: usize, memory: &[Row], row: usize) -> Option<&Row>
+    ensures { λ r. ⌜ StandingRecord taken (now (memory .entry)) row (mapped now r) ⌝ }
+{
+    match standing_place(taken, memory, row) {
+        Some(place) => Some(&memory[place]),
+        None => None,
     }
 }
 
@@ -90,13 +101,13 @@ impl Plain {
         if memory.len() != self.records {
             return Err(Refusal::MemoryLength);
         }
-        let Some(place) = standing_place(self.taken, memory, row) else {
+        let Some(record) = standing_record(self.taken, memory, row) else {
             return Err(Refusal::NotStanding);
         };
         if column >= self.columns.count {
             return Err(Refusal::NoSuchColumn);
         }
-        Ok(memory[place].numbers[column])
+        Ok(record.numbers[column])
     }
 
     pub(crate) fn count(&self, memory: &[Row]) -> Result<(usize, usize), Refusal>
@@ -105,8 +116,7 @@ impl Plain {
         if memory.len() != self.records {
             return Err(Refusal::MemoryLength);
         }
-        let given_out = &memory[0..self.taken.min(memory.len())];
-        Ok((self.taken, marks(given_out)))
+        Ok((self.taken, marks(given_out(memory, self.taken))))
     }
 
     pub(crate) fn turn_code<Y: Coding, H: Coding>(
@@ -131,6 +141,13 @@ pub(crate) fn blank_all(memory: &mut [Row])
     for record in memory.iter_mut() {
         *record = BLANK;
     }
+}
+
+// The records of the places taken.
+fn given_out(memory: &[Row], taken: usize) -> &[Row]
+    ensures { λ r. ⌜ now r ≡ take taken (now (memory .entry)) ⌝ }
+{
+    &memory[0..taken.min(memory.len())]
 }
 
 // How many records have the mark.

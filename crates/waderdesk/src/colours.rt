@@ -29,6 +29,11 @@ pub fn colour_coding(heap: Global) -> Result<Pile<Plus>, AnyError> {
     Ok(first.chain(heap, then)?.narrowed(heap, LAST_COLOUR)?)
 }
 
+// The weavers' numbers, turned so that the two codings of the desk differ in kind.
+pub fn hands_coding(heap: Global) -> Result<Pile<Plus>, AnyError> {
+    Ok(Pile::leaf(Plus::new(199, 31)?).turned(heap)?)
+}
+
 pub fn tell_all(rt: &impl Print, coding: &Pile<Plus>) -> Result<(), AnyError> {
     let top = coding.top();
     println!(

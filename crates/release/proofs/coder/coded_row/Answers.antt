@@ -4,7 +4,7 @@ use Rattle.release.proofs.Columnwise.{coded-none, coded-one, coded-above, code
 use Rattle.release.proofs.coder.coded_row.Needs as need
 
 pub loop-j-holds : need.loop-j-holds
-loop-j-holds g c = coded-none _ _ _ _ (c .pre .few) (c .pre .each)
+loop-j-holds g c = rw (c .zeros-codes .ensures) (coded-none _ _ _ _ (c .pre .few) (c .pre .each))
 
 pub loop-j-again : need.loop-j-again
 loop-j-again g c = coded-one _ _ _ _ (c .pre .few) (c .pre .each) _ _ _ (omega arith) (c .loop-j .inv) (c .in-Continue-codes .ensures tt)
