@@ -115,7 +115,7 @@ length-codes s (r ∷ rs) [] l = absurd (omega arith)
 length-codes s (r ∷ rs) (x ∷ xs) l = ap suc (length-codes s rs xs (omega arith))
 
 -- each column's coding is lawful
-coding-lawful : (s : Setup) → Lawful (s .yarn) → Lawful (s .hands) → (r : Role) → Lawful (coding-of s r)
+pub coding-lawful : (s : Setup) → Lawful (s .yarn) → Lawful (s .hands) → (r : Role) → Lawful (coding-of s r)
 coding-lawful s ly lh Yarn = ly
 coding-lawful s ly lh Hands = lh
 coding-lawful s ly lh Clear = clear-lawful _

@@ -1,8 +1,8 @@
 -- Lists of calls: every answer is the book's, and what then holds.
 use mathlib.Core.Path.{_≡_, refl, sym, ap, subst, _∙_}
-use mathlib.Core.Bool.{Bool, true, false, _&&_}
+use mathlib.Core.Bool.{true, _&&_}
 use mathlib.Core.List.{List, [], _∷_}
-use Prim.Native.Nat.{ℕ, zero, suc, _-_, _≤_, _<_}
+use Prim.Native.Nat.{ℕ, _-_, _≤_, _<_}
 use native.Mathlib.Omega.{arith}
 use lib.Dec.{leb, ltb}
 use lib.ListN.{length, getD}
@@ -11,20 +11,17 @@ use Rattle.std.specs.declared.result.Result.the-variants.{Ok}
 use Rattle.std.proofs.shelf.Elements.{all-getD}
 use Rattle.std.proofs.shelf.Tests.{leb-true, ltb-true, le-leb, lt-ltb, and-parts}
 use Rattle.meanings.specs.Meaning.{Meaning, Lawful, Same}
-use Rattle.meanings.proofs.Lawful.{clear-lawful}
 use Rattle.meanings.proofs.Orbits.{one-to-one}
 use Rattle.book.specs.declared.refusal.Refusal.{Refusal}
-use Rattle.book.specs.declared.role.Role.{Role}
-use Rattle.book.specs.declared.role.Role.the-variants.{Yarn, Hands, Clear}
+use Rattle.book.specs.declared.role.Role.the-variants.{Clear}
 use Rattle.book.specs.declared.row.Row.{Row}
 use Rattle.book.specs.declared.call.Answer.the-variants.{Put, Withdrawn, Shown, TurnedBack, Tally}
-use Rattle.book.specs.Refusals.{ask}
-use Rattle.book.specs.Rows.{Setup, coding-of, within}
+use Rattle.book.specs.Rows.{Setup, within}
 use Rattle.book.specs.Raw.{show-answer}
 use Rattle.book.specs.Book.{BookRow, no-row, row-at, row-stands, entry-code, book-show, Keeps}
 use Rattle.book.specs.Runs.{Asked, put, withdraw, show, turn-back, tally, told, State, answer, after, book-answer, book-after, Entry, entry-coding, entry-number, Promise, RunKept}
 use Rattle.book.proofs.Asking.{ask-yes, ask-ok}
-use Rattle.book.proofs.Kept.{within-at, put-kept, withdraw-kept, show-kept, turn-back-kept, tally-kept}
+use Rattle.book.proofs.Kept.{within-at, coding-lawful, put-kept, withdraw-kept, show-kept, turn-back-kept, tally-kept}
 
 -- two numbers that the same answer gives
 ok-same : (a : Result ℕ Refusal) (m n : ℕ) → a ≡ Ok m → a ≡ Ok n → m ≡ n
@@ -55,12 +52,6 @@ book-shows : (s : Setup) (b : List BookRow) (i c : ℕ) → Entry s b i c → bo
 book-shows s b i c e = ask-yes (row-stands b i) _ _ (e .row) ∙ ask-yes (ltb c (length (s .roles))) _ _ (lt-ltb c (length (s .roles)) (e .place))
 
 module _ (s : Setup) (ly : Lawful (s .yarn)) (lh : Lawful (s .hands)) where
-  -- each column's coding is lawful
-  coding-lawful : (r : Role) → Lawful (coding-of s r)
-  coding-lawful Yarn = ly
-  coding-lawful Hands = lh
-  coding-lawful Clear = clear-lawful _
-
   pub call-kept : (st : State) (b : List BookRow) (c : Asked) → Keeps s (st .taken) (st .memory) b
       → (answer s st c ≡ book-answer s b c) × Keeps s (after s st c .taken) (after s st c .memory) (book-after s b c)
   call-kept st b (put xs) k = let p = put-kept s (st .taken) (st .memory) b k xs in (ap (told Put) (p .0), p .1)
@@ -90,7 +81,7 @@ module _ (s : Setup) (ly : Lawful (s .yarn)) (lh : Lawful (s .hands)) where
   }
     where
       lawful : (c : ℕ) → Lawful (entry-coding s c)
-      lawful c = coding-lawful (getD (s .roles) c Clear)
+      lawful c = coding-lawful s ly lh (getD (s .roles) c Clear)
 
       low : (i c : ℕ) → Entry s b i c → entry-number s b i c ≤ entry-coding s c .top
       low i c e = entry-within s (st .taken) (st .memory) b k i c e

@@ -1,11 +1,11 @@
 -- `Same` is an equivalence that every layer keeps; equal lawful codings have equal ways back.
 use mathlib.Core.Path.{_≡_, refl, sym, ap, _∙_}
 use mathlib.Core.Logic.{_⊎_, inl, inr}
-use Prim.Native.Nat.{ℕ, max, min, _≤_, _<_}
+use Prim.Native.Nat.{ℕ, min, _≤_, _<_}
 use native.Mathlib.Omega.{arith}
 use Rattle.std.proofs.shelf.Tests.{cases-lt}
 use Rattle.meanings.specs.Meaning.{Meaning, Lawful, Same, SameBack}
-use Rattle.meanings.specs.Layers.{stretched, turned, chained, narrowed}
+use Rattle.meanings.specs.Layers.{stretched, chained, narrowed}
 use Rattle.meanings.specs.Laws.{Equality}
 use Rattle.meanings.proofs.Orbits.{one-to-one}
 use Rattle.meanings.proofs.Falls.{falls-like, falls-meet}

@@ -1,15 +1,13 @@
 -- Each supplied coding and each layer is lawful, and is what its words say; a lawful coding uses each
 -- number once as a code.
-use mathlib.Core.Path.{_≡_, refl, sym, ap, _∙_}
-use mathlib.Core.Bool.{true, false}
+use mathlib.Core.Path.{_≡_, refl, ap, _∙_}
 use mathlib.Core.Logic.{_⊎_, inl, inr}
-use Prim.Native.Nat.{ℕ, zero, suc, max, min, _+_, _-_, _%_, _≤_, _<_}
+use Prim.Native.Nat.{ℕ, max, _+_, _-_, _%_, _≤_, _<_}
 use native.Mathlib.Nat.{mod-eq-of-lt, mod-eq-sub-mod, mod-lt}
 use native.Mathlib.Omega.{arith}
-use lib.Dec.{leb}
 use Rattle.std.proofs.shelf.Tests.{cases-lt, le-leb, lt-leb}
 use Rattle.meanings.specs.Meaning.{Meaning, Lawful, EachOnce}
-use Rattle.meanings.specs.Layers.{stretched, turned, chained, narrowed, Meets, IsChain, IsTurned}
+use Rattle.meanings.specs.Layers.{stretched, turned, chained, Meets, IsChain, IsTurned}
 use Rattle.meanings.specs.Supplied.{clear, plus}
 use Rattle.meanings.proofs.Orbits.{one-to-one}
 use Rattle.meanings.proofs.Narrowing.{turned-lawful}

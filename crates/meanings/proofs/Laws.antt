@@ -6,7 +6,7 @@ use Prim.Native.Nat.{ℕ, zero, suc, max, min, _≤_, _<_}
 use native.Mathlib.Omega.{arith}
 use Rattle.std.proofs.shelf.Tests.{cases-lt}
 use Rattle.meanings.specs.Meaning.{Meaning, Lawful, Same}
-use Rattle.meanings.specs.Layers.{stretched, turned, chained, narrowed}
+use Rattle.meanings.specs.Layers.{stretched, chained, narrowed}
 use Rattle.meanings.specs.Laws.{Laws}
 use Rattle.meanings.proofs.Falls.{Falls, falls-meet, falls-lower, falls-on}
 use Rattle.meanings.proofs.Narrowing.{way, narrowed-lawful, narrowed-within}

@@ -1,10 +1,10 @@
 -- The rule of a narrowed coding: for each number up to the new top it is a fall, so it is the first number
 -- at most the new top.
-use mathlib.Core.Path.{_≡_, refl, sym, _∙_}
-use Prim.Native.Nat.{ℕ, zero, suc, min, _≤_, _<_}
+use mathlib.Core.Path.{_≡_, refl}
+use Prim.Native.Nat.{ℕ, zero, min, _≤_}
 use native.Mathlib.Omega.{arith}
 use Rattle.meanings.specs.Meaning.{Meaning, Lawful}
-use Rattle.meanings.specs.Layers.{after, walk, narrowed, turned, IsNarrowed}
+use Rattle.meanings.specs.Layers.{after, narrowed, turned, IsNarrowed}
 use Rattle.meanings.proofs.Orbits.{comes-home}
 use Rattle.meanings.proofs.Falls.{Falls, Fall, fall, falls-small, walk-falls, falls-first, falls-back}
 

@@ -1,7 +1,7 @@
 -- The orbit of a number under a lawful rule comes home: some applications, one to top + 1 of them, lead
 -- back to the number.
 use mathlib.Core.Path.{_≡_, refl, sym, ap, _∙_}
-use Prim.Native.Nat.{ℕ, zero, suc, _+_, _-_, _≤_, _<_}
+use Prim.Native.Nat.{ℕ, zero, suc, _+_, _-_, _≤_}
 use native.Mathlib.Nat.{suc-add, zero-add}
 use native.Mathlib.Omega.{arith}
 use Rattle.meanings.specs.Meaning.{Meaning, Lawful}

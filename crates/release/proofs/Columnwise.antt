@@ -1,23 +1,21 @@
 -- The loop that codes a row column by column: what it keeps, and what it comes to.
-use mathlib.Core.Path.{_≡_, refl, sym, ap, subst, _∙_}
-use mathlib.Core.Bool.{Bool, true, false, _&&_}
+use mathlib.Core.Path.{_≡_, refl, sym, ap, _∙_}
 use mathlib.Core.List.{List, [], _∷_, _++_, append-assoc}
 use mathlib.Core.Logic.{_⊎_, inl, inr}
 use Prim.Native.Nat.{ℕ, suc, _+_, _-_, _≤_, _<_}
 use native.Mathlib.Omega.{arith}
-use lib.Dec.{leb}
 use lib.ListN.{length, getD, take, drop, set, replicate, length-set, take-append-drop}
 use Rattle.std.specs.declared.result.Result.{Result}
 use Rattle.std.specs.declared.result.Result.the-variants.{Ok, Err}
 use Rattle.std.proofs.shelf.Lists.{drop-more, take-more-set, drop-all, drop-set-lt, drop-replicate, drop-drop}
-use Rattle.std.proofs.shelf.Tests.{cases-lt, le-leb, lt-leb, cases-bool}
+use Rattle.std.proofs.shelf.Tests.{cases-lt, le-leb, lt-leb}
 use Rattle.meanings.specs.Meaning.{Meaning}
 use Rattle.book.specs.declared.refusal.Refusal.{Refusal}
 use Rattle.book.specs.declared.refusal.Refusal.the-variants.{AboveTop}
 use Rattle.book.specs.declared.role.Role.{Role}
 use Rattle.book.specs.declared.role.Role.the-variants.{Yarn}
 use Rattle.book.specs.Refusals.{ask}
-use Rattle.book.specs.Rows.{coding-in, within-in, codes-in, padded}
+use Rattle.book.specs.Rows.{coding-in, within-in, codes-in}
 use Rattle.release.specs.Coder.{one-coded, row-coded}
 
 less : (j : ℕ) → 8 - j - 1 ≡ 8 - (j + 1)

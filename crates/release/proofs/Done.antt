@@ -7,7 +7,7 @@ use Rattle.meanings.specs.Meaning.{Meaning, Lawful}
 use Rattle.book.specs.declared.refusal.Refusal.{Refusal}
 use Rattle.book.specs.declared.row.Row.{Row}
 use Rattle.book.specs.Raw.{put-answer, put-memory, put-taken, withdraw-answer, withdraw-memory, show-answer, turn-back-answer, tally-answer}
-use Rattle.book.specs.Book.{BookRow, after-put, after-withdraw, Keeps}
+use Rattle.book.specs.Book.{after-put, after-withdraw, Keeps}
 use Rattle.book.proofs.Kept.{put-kept, withdraw-kept, show-kept, turn-back-kept, tally-kept}
 use Rattle.release.specs.Views.{setup-of, plain-setup, with-taken}
 use Rattle.release.specs.Calls.{PutDone, WithdrawDone, ShowDone, TurnBackDone, TallyDone}

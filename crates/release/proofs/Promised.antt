@@ -1,5 +1,5 @@
 -- What holds after a list of calls, from what the list answers and leaves by the definition.
-use mathlib.Core.Path.{_≡_, refl, sym, ap, subst, _∙_}
+use mathlib.Core.Path.{_≡_, sym, ap, subst, _∙_}
 use mathlib.Core.List.{List, []}
 use Prim.Native.Nat.{ℕ}
 use lib.ListN.{length}
@@ -9,7 +9,7 @@ use Rattle.meanings.specs.Meaning.{Meaning, Lawful}
 use Rattle.book.specs.declared.call.Answer.{Answer}
 use Rattle.book.specs.declared.refusal.Refusal.{Refusal}
 use Rattle.book.specs.declared.row.Row.{Row}
-use Rattle.book.specs.Book.{BookRow, Keeps}
+use Rattle.book.specs.Book.{Keeps}
 use Rattle.book.specs.Runs.{Asked, State, answers, after-all, book-after-all, Promise}
 use Rattle.book.proofs.Runs.{run-kept}
 use Rattle.release.specs.Opening.{ReadAs}
