@@ -11,7 +11,7 @@ use codings::clear::ClearCoding;
 use codings::coding::Coding;
 
 // The code of x in a column of this role.
-pub fn code_in<Y: Coding, H: Coding>(
+pub(crate) fn code_in<Y: Coding, H: Coding>(
     role: Role,
     yarn: &Y,
     hands: &H,
@@ -27,7 +27,7 @@ pub fn code_in<Y: Coding, H: Coding>(
 }
 
 // The number whose code in a column of this role is y.
-pub fn back_in<Y: Coding, H: Coding>(
+pub(crate) fn back_in<Y: Coding, H: Coding>(
     role: Role,
     yarn: &Y,
     hands: &H,
@@ -68,7 +68,7 @@ fn zeros() -> [u64; 8]
 }
 
 // The numbers of the record of a row: its codes, with zeros after them.
-pub fn coded_row<Y: Coding, H: Coding>(
+pub(crate) fn coded_row<Y: Coding, H: Coding>(
     roles: &[Role],
     yarn: &Y,
     hands: &H,
