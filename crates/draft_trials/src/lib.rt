@@ -1,4 +1,6 @@
 // Drafts from outside, whole and spoilt, as tests.
+#![tactic(auto)]
+
 #[cfg(test)]
 mod sample;
 #[cfg(test)]

@@ -1,5 +1,7 @@
 // The binary fields of the box widths: a value of m bits is a polynomial over the field of two elements, bit i standing
 // for x^i, modulo x^m plus a low part.
+#![tactic(auto)]
+
 ghost use Rattle.std.specs.Prelude.{◌≡◌};
 ghost use Rattle.field.specs.Known.{known, Right};
 ghost use Rattle.std.specs.List.{AllByRecursion as All};

@@ -1,4 +1,6 @@
 // What holds of every coding and of every pile of codings, shown at a number.
+#![tactic(auto)]
+
 ghost use Rattle.std.specs.Prelude.{◌≡◌, min};
 ghost use Rattle.codings.specs.Asking.{coded};
 ghost use Rattle.laws.specs.Shown.{Agree, Shown, sides};

@@ -1,5 +1,7 @@
 // What a coding means, and what holds of every pile of codings: the definitions stand in specs/ and the lemmas
 // in proofs/, for the crates above. The code is what the tops of layers come to.
+#![tactic(auto)]
+
 ghost use Rattle.std.specs.Prelude.{◌≡◌, min, max};
 
 // The top of a chain: the larger of its parts' tops.

@@ -1,4 +1,6 @@
 // Tests of bits, orders, fields and boxes from outside, in a crate of their own since a crate with tests is proved twice.
+#![tactic(auto)]
+
 #[cfg(test)]
 mod boxes;
 #[cfg(test)]

@@ -2,6 +2,8 @@
 // release; `calls` has what can be asked of them, `lists` lists of calls with the whole promise, and `raw` the
 // bodies behind both, on the `plain` numbers of a release. Nothing here names a cipher: everything is proved from
 // what the trait `Coding` says.
+#![tactic(auto)]
+
 mod calls;
 mod coder;
 pub mod columns;

@@ -1,4 +1,6 @@
 // Releases from outside: the examples as tests. Each test is proved safe and then run.
+#![tactic(auto)]
+
 #[cfg(test)]
 mod bench;
 #[cfg(test)]

@@ -1,6 +1,8 @@
 // The desk. Asked for nothing it shows what it can do: it codes the colour numbers of a mill by a pile of codings, codes
 // them back, shows a refusal, and keeps a small release of loom records. `draft FILE` tells what a draft says, `spoilt`
 // reads three spoilt ones.
+#![tactic(auto)]
+
 mod colours;
 mod drafts;
 mod loom;
