@@ -1,5 +1,5 @@
 -- What the bits of a number are after a shift, a mask or a sum, and that they tell the number.
-use Rattle.std.proofs.Common.{◌≡◌, ℕ, zero, suc, ◌+◌, ◌-◌, ◌*◌, ◌/◌, ◌%◌, ◌^◌, ◌<◌, ◌≤◌, ◌⊎◌, sym, ap, ◌∙◌, subst, inl, inr, add-zero, mod-lt, mod-eq_of_lt, mul_assoc, mul_comm, pow_suc, div-one, arith, pow_pos, pow_mono, pow-add, shr-shr, shr_lt}
+use Rattle.std.proofs.Common.{◌≡◌, ℕ, zero, suc, ◌+◌, ◌-◌, ◌*◌, ◌/◌, ◌%◌, ◌^◌, ◌<◌, ◌≤◌, ◌⊎◌, sym, ap, ◌∙◌, subst, inl, inr, add-zero, mod-lt, mod-eq_of_lt, mul_assoc, mul_comm, pow-suc, div-one, arith, pow_pos, pow_mono, pow-add, shr-shr, shr_lt}
 use native.Mathlib.Nat.{div-eq_of_lt}
 use lib.Arith.{digits_lt}
 use lib.Pow.{field, mod-mod-pow, high, low, shl-shr, split}
@@ -49,7 +49,7 @@ bit_shl_low x k i h =
 pub same_bits : (n x y : ℕ) → x < 2 ^ n → y < 2 ^ n → ((i : ℕ) → i < n → bit x i ≡ bit y i) → x ≡ y
 same_bits zero x y hx hy same = omega arith
 same_bits (suc n) x y hx hy same =
-    let p = pow_suc 2 n in
+    let p = pow-suc 2 n in
     let half : x / 2 ≡ y / 2 = same_bits n (x / 2) (y / 2) (omega arith) (omega arith) (λ i h. bit_half x i ∙ same (suc i) (omega arith) ∙ sym (bit_half y i)) in
     let first : x % 2 ≡ y % 2 = sym (bit_first x) ∙ same 0 (omega arith) ∙ bit_first y in
     omega arith

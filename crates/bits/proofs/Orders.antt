@@ -1,5 +1,5 @@
 -- Where an order puts each bit, that moving and gathering undo each other, and which lists of places are orders.
-use Rattle.std.proofs.Common.{◌≡◌, ℕ, zero, suc, ◌+◌, ◌-◌, ◌*◌, ◌/◌, ◌%◌, ◌^◌, ◌<◌, ◌≤◌, true, false, not, ◌||◌, eqb, ltb, ◌⊎◌, List, [], ◌∷◌, length, get_or, take, drop, sym, ap, ◌∙◌, subst, inl, inr, mod-lt, mul_assoc, mul_comm, add-mul, pow_suc, zero-mul, mul_one, div-one, arith, pow_pos, pow_mono, pow-add, shr-shr}
+use Rattle.std.proofs.Common.{◌≡◌, ℕ, zero, suc, ◌+◌, ◌-◌, ◌*◌, ◌/◌, ◌%◌, ◌^◌, ◌<◌, ◌≤◌, true, false, not, ◌||◌, eqb, ltb, ◌⊎◌, List, [], ◌∷◌, length, get_or, take, drop, sym, ap, ◌∙◌, subst, inl, inr, mod-lt, mul_assoc, mul_comm, add-mul, pow-suc, zero-mul, mul-one, div-one, arith, pow_pos, pow_mono, pow-add, shr-shr}
 use Rattle.std.proofs.lemmas.Nat.{shl_whole}
 use Rattle.std.proofs.lemmas.List.{get_or_default, get_or_past, get_or-take, length-take-le, drop_more, drop_all}
 use Rattle.std.proofs.lemmas.Bool.{cases_eq, eq-eqb, ne_eqb, lt-ltb, ltb-true, not-false, or_parts, or_left, cond-true, true≢false}
@@ -55,7 +55,7 @@ moved_below n (r ∷ rs) x a below =
 pub gathered_below : (R : List ℕ) (y : ℕ) → gathered R y < 2 ^ length R
 unfolding gathered
 gathered_below [] y = omega arith
-gathered_below (r ∷ rs) y = let p = pow_suc 2 (length rs) in let b = bit_below y r in let g = gathered_below rs y in omega arith
+gathered_below (r ∷ rs) y = let p = pow-suc 2 (length rs) in let b = bit_below y r in let g = gathered_below rs y in omega arith
 
 pub gathered_bit : (R : List ℕ) (y i : ℕ) → i < length R → bit (gathered R y) i ≡ bit y (get_or R i 0)
 unfolding gathered
@@ -190,7 +190,7 @@ module _ (R : List ℕ) (x i : ℕ) where
 
   pub gather_none : left_to_gather R x 0 ≡ gathered R x
   unfolding left_to_gather
-  gather_none = mul_one (gathered R x)
+  gather_none = mul-one (gathered R x)
 
   pub gather_more : i < length R → bit x (get_or R i 0) * 2 ^ i + left_to_gather R x (i + 1) ≡ left_to_gather R x i
   unfolding left_to_gather gathered
