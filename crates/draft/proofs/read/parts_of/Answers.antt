@@ -10,7 +10,7 @@ loop-next-init c = kept_start c.args.bytes.now c.started-reading.result c.starte
 
 pub returns-in_err-next : goal.returns-in_err-next
 returns-in_err-next c =
-    let p = err_from_is_err_and c.from-residual.result c.from-residual.ensures.1 in
+    let p = err_from_is_err_and c.from_residual.result c.from_residual.ensures.1 in
     let e = kept_fault c.args.bytes.now c.loop-next.reading _ c.loop-next.invariant (sym c.turn.ensures ∙ c.in_err-next.was) in
     rw (p.1, p.2) (record { is = e; told = told c.args.bytes.now _ e })
 

@@ -14,5 +14,5 @@ returns g c = coded_all _ _ _ _ c.requires.few c.requires.each c.loop-j.j _ (ome
 
 pub returns-in_err-codes : goal.returns-in_err-codes
 returns-in_err-codes g c =
-    let p = err_from_is_err_and c.from-residual.result c.from-residual.ensures.1 in
+    let p = err_from_is_err_and c.from_residual.result c.from_residual.ensures.1 in
     rw (p.1, p.2) (coded_above _ _ _ _ c.requires.few c.requires.each _ _ _ (omega arith) c.loop-j.invariant c.in_err-codes.ensures)

@@ -16,7 +16,7 @@ loop-j-preserved c =
 pub returns-in_err-roles : goal.returns-in_err-roles
 returns-in_err-roles c =
     let letter = get_or_read c.args.letters.now c.loop-j.j c.index-letters-j.result (omega arith) c.index-letters-j.is 0 in
-    let p = err_from_is_err_and c.from-residual.result c.from-residual.ensures.1 in
+    let p = err_from_is_err_and c.from_residual.result c.from_residual.ensures.1 in
     let bad = columns_bad _ _ _ _ c.if-count-eq0.false c.if-count-gt8.false (omega arith) c.loop-j.invariant (c.in_err-roles.ensures ∙ ap role_read letter) in
     rw (bad, p.1) p.2
 

@@ -9,21 +9,21 @@ loop-y-init g t c =
     let p = layers g.C.Coding.means g.C.Coding.lawful c.in-Narrowed.below.value in
     let is = ap (tree_meaning g.C.Coding.means g.C.Coding.lawful) c.in-Narrowed.is in
     let top_below = rw c.deref-in-Narrowed.ensures at c.top.ensures in
-    let answer = rw c.deref-in-Narrowed-2.ensures at c.in_ok-y.ensures in
-    way_begins c.args.way c.in-Narrowed.to c.top.result c.narrowed_top-top.result p _ is top_below c.narrowed_top-top.ensures c.args.x (omega arith) c.in_ok-y.y answer
+    let answer = rw c.deref-in-Narrowed-2.ensures at c.in_ok-y-in-Narrowed.ensures in
+    way_begins c.args.way c.in-Narrowed.to c.top.result c.narrowed_top-top.result p _ is top_below c.narrowed_top-top.ensures c.args.x (omega arith) c.in_ok-y-in-Narrowed.y answer
 
 pub loop-y-smaller : goal.loop-y-smaller
 loop-y-smaller g t c =
     let p = layers g.C.Coding.means g.C.Coding.lawful c.in-Narrowed.below.value in
     let is = ap (tree_meaning g.C.Coding.means g.C.Coding.lawful) c.in-Narrowed.is in
     let top_below = rw c.deref-in-Narrowed.ensures at c.top.ensures in
-    let answer = rw c.deref-in-loop-y.ensures at c.in_ok-y-2.ensures in
-    way_less c.args.way c.in-Narrowed.to c.top.result c.narrowed_top-top.result p _ is top_below c.narrowed_top-top.ensures c.args.x (omega arith) c.loop-y.y c.in_ok-y-2.y (omega arith) answer c.loop-y.invariant
+    let answer = rw c.deref-in-loop-y.ensures at c.in_ok-y-in-Narrowed-2.ensures in
+    way_less c.args.way c.in-Narrowed.to c.top.result c.narrowed_top-top.result p _ is top_below c.narrowed_top-top.ensures c.args.x (omega arith) c.loop-y.y c.in_ok-y-in-Narrowed-2.y (omega arith) answer c.loop-y.invariant
 
 pub loop-y-preserved : goal.loop-y-preserved
 loop-y-preserved g t c =
     let p = layers g.C.Coding.means g.C.Coding.lawful c.in-Narrowed.below.value in
     let is = ap (tree_meaning g.C.Coding.means g.C.Coding.lawful) c.in-Narrowed.is in
     let top_below = rw c.deref-in-Narrowed.ensures at c.top.ensures in
-    let answer = rw c.deref-in-loop-y.ensures at c.in_ok-y-2.ensures in
-    way_again c.args.way c.in-Narrowed.to c.top.result c.narrowed_top-top.result p _ is top_below c.narrowed_top-top.ensures c.args.x (omega arith) c.loop-y.y c.in_ok-y-2.y (omega arith) answer c.loop-y.invariant
+    let answer = rw c.deref-in-loop-y.ensures at c.in_ok-y-in-Narrowed-2.ensures in
+    way_again c.args.way c.in-Narrowed.to c.top.result c.narrowed_top-top.result p _ is top_below c.narrowed_top-top.ensures c.args.x (omega arith) c.loop-y.y c.in_ok-y-in-Narrowed-2.y (omega arith) answer c.loop-y.invariant
