@@ -8,6 +8,7 @@ use release::open_and_call;
 use release::ran::{Ran, Unopened};
 use std::alloc::Global;
 use std::process::Abort;
+use std::test::Fail;
 
 // The answers come in the sequence of the calls, and more calls go on where the list ended.
 #[test]

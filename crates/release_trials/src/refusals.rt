@@ -4,6 +4,7 @@ use book::refusal::Refusal;
 use book::row::Row;
 use release::open::Open;
 use std::process::Abort;
+use std::test::Fail;
 
 // A release has 1 to 8 columns (14), and a role letter is Y, H or C (15).
 #[test]

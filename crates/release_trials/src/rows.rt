@@ -4,6 +4,7 @@ use book::refusal::Refusal;
 use book::row::Row;
 use release::open::Open;
 use std::process::Abort;
+use std::test::Fail;
 
 // A refused opening leaves row memory as it was, and an accepted one sets all of it to zero.
 #[test]

@@ -4,6 +4,7 @@ use book::refusal::Refusal;
 use book::row::Row;
 use release::open::Open;
 use std::process::Abort;
+use std::test::Fail;
 
 // Opening asks for the columns, then the letters, then the row records.
 #[test]

@@ -7,6 +7,7 @@ mod colours;
 mod drafts;
 mod loom;
 
+use anyhow::anyhow;
 use colours::{colour_coding, hands_coding, tell_all};
 use drafts::{show_spoilt, tell_draft};
 use loom::keep_release;
@@ -29,7 +30,7 @@ fn ask(rt: &HostRuntime, task: &str, of: Option<String>) -> anyhow::Result<()> {
             show_spoilt(rt)?;
             Ok(())
         }
-        _ => Err(USAGE.into()),
+        _ => Err(anyhow!("{USAGE}")),
     }
 }
 
