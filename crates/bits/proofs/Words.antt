@@ -3,7 +3,7 @@ use Rattle.std.proofs.Common.{◌≡◌, ℕ, ◌+◌, ◌-◌, ◌*◌, ◌/◌
 use native.Mathlib.Nat.{div-eq_of_lt, mod-add-mod, add-mod-mod, add-mul-mod_self_right, add-mod_right, mul-mod_left, mod-eq-sub-mod}
 use lib.Arith.{digits_lt}
 use lib.Bits.{bit_or, or_shifted}
-use lib.Pow.{ones_split, ones_lt, mod-mod-pow, high, low, mod-pow-add, shl-shr}
+use lib.Pow.{ones_split, ones_lt, mod-mod-pow, high, mod-pow-add, shl-shr}
 use Rattle.std.proofs.lemmas.Bool.{cases_lt}
 use Rattle.bits.specs.Bits.{bit}
 use Rattle.bits.specs.Steps.{Turns}

@@ -1,6 +1,6 @@
 -- What each call answers and leaves, whatever the row memory holds: the questions in their sequence, of
 -- which the first no decides.
-use Rattle.std.specs.Prelude.{◌≡◌, ℕ, suc, ◌+◌, ◌-◌, Bool, true, false, ◌&&◌, List, [], ◌∷◌, length, get_or, take, Ok, Err, Result, ◌==◌, nat_le, nat_lt, slice_index, slice_index_or, slice_set}
+use Rattle.std.specs.Prelude.{ℕ, suc, ◌+◌, ◌-◌, Bool, true, false, ◌&&◌, List, [], ◌∷◌, length, get_or, take, Ok, Err, Result, ◌==◌, nat_le, nat_lt, slice_index, slice_index_or, slice_set}
 use Rattle.book.specs.declared.refusal.Refusal.{Refusal}
 use Rattle.book.specs.declared.refusal.Refusal.TheVariants.{AboveTop, MemoryLength, NumberCount, NoPlaceFree, NotStanding, NoSuchColumn}
 use Rattle.book.specs.declared.role.Role.TheVariants.{Clear}

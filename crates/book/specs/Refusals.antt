@@ -1,5 +1,5 @@
 -- The refusals of a release and their numbers, and a question before work is done.
-use Rattle.std.specs.Prelude.{ℕ, Bool, true, false, List, Ok, Err, codes, Result}
+use Rattle.std.specs.Prelude.{ℕ, Bool, true, false, List, Err, codes, Result}
 use Rattle.book.specs.declared.refusal.Refusal.{Refusal}
 use Rattle.book.specs.declared.refusal.Refusal.TheVariants.{AboveTop, Columns, RoleLetter, RowRecords, MemoryLength, NumberCount, NoPlaceFree, NotStanding, NoSuchColumn}
 

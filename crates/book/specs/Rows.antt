@@ -1,5 +1,5 @@
 -- Rows of numbers, their codes, and the records of row memory.
-use Rattle.std.specs.Prelude.{◌≡◌, ℕ, ◌-◌, ◌^◌, ◌≤◌, Bool, true, false, ◌&&◌, List, [], ◌∷◌, ◌++◌, length, replicate, nat_le}
+use Rattle.std.specs.Prelude.{ℕ, ◌-◌, ◌^◌, Bool, true, false, ◌&&◌, List, [], ◌∷◌, ◌++◌, length, replicate, nat_le}
 use Rattle.meanings.specs.Meaning.{Meaning}
 use Rattle.meanings.specs.Supplied.{clear}
 use Rattle.book.specs.declared.role.Role.{Role}

@@ -1,6 +1,6 @@
 -- Lists of calls: what the release answers and leaves, what the book answers, and what then holds.
-use Rattle.std.specs.Prelude.{◌≡◌, ℕ, suc, ◌+◌, ◌<◌, ◌≤◌, Bool, true, false, List, [], ◌∷◌, ◌++◌, length, Ok, Err, Result, slice_index, slice_index_or}
-use Rattle.meanings.specs.Meaning.{Meaning, Lawful, Same}
+use Rattle.std.specs.Prelude.{◌≡◌, ℕ, ◌<◌, true, List, [], ◌∷◌, length, Ok, Err, Result, slice_index, slice_index_or}
+use Rattle.meanings.specs.Meaning.{Meaning, Same}
 use Rattle.book.specs.declared.refusal.Refusal.{Refusal}
 use Rattle.book.specs.declared.role.Role.TheVariants.{Clear}
 use Rattle.book.specs.declared.row.Row.{Row}
@@ -8,7 +8,7 @@ use Rattle.book.specs.declared.call.Answer.{Answer}
 use Rattle.book.specs.declared.call.Answer.TheVariants.{Put, Withdrawn, Shown, TurnedBack, Tally, Refused}
 use Rattle.book.specs.Rows.{Setup, coding_of}
 use Rattle.book.specs.Raw.{put_answer, put_memory, put_taken, withdraw_answer, withdraw_memory, show_answer, turn_back_answer, tally_answer}
-use Rattle.book.specs.Book.{BookRow, row_at, row_stands, count_standing, book_put, after_put, book_withdraw, after_withdraw, book_show, book_turn_back, book_tally, memory_of, Keeps}
+use Rattle.book.specs.Book.{BookRow, row_at, row_stands, count_standing, book_put, after_put, book_withdraw, after_withdraw, book_show, book_turn_back, book_tally, Keeps}
 
 -- A call by what it is given.
 pub data Asked : Type 0 where

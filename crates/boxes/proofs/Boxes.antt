@@ -1,12 +1,11 @@
 -- Boxes undo each other, whatever their width and random parts.
-use Rattle.std.proofs.Common.{◌≡◌, ℕ, zero, suc, ◌+◌, ◌-◌, ◌*◌, ◌/◌, ◌%◌, ◌^◌, ◌<◌, ◌≤◌, sym, refl, ap, ◌∙◌, mod-eq_of_lt, arith}
-use lib.Bits.{bit_xor, xor_lt, xor_comm, xor_assoc, xor_self, xor_zero_r}
+use Rattle.std.proofs.Common.{◌≡◌, ℕ, ◌+◌, ◌-◌, ◌%◌, ◌^◌, ◌<◌, refl, ap, ◌∙◌, mod-eq_of_lt, arith}
+use lib.Bits.{bit_xor, xor_lt, xor_assoc, xor_self, xor_zero_r}
 use Rattle.std.proofs.lemmas.Nat.{pow_pos, mod_below}
 use Rattle.bits.specs.Words.{sum, less, turned_left, turned_right}
 use Rattle.bits.proofs.Words.{cancels, turns_back, turned_left_below, turned_right_below}
-use Rattle.field.specs.Fields.{inverse}
 use Rattle.field.specs.Widths.{low_part}
-use Rattle.field.proofs.Inverses.{Tested, inverse_lt, inverse_again}
+use Rattle.field.proofs.Inverses.{inverse_lt, inverse_again}
 use Rattle.field.proofs.Tested.{field_good}
 use Rattle.boxes.specs.Boxes.{flex, cpa, cpa_back, Undone}
 

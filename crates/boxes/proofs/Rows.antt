@@ -4,7 +4,7 @@ use Rattle.std.proofs.lemmas.Simd.{get_or-replicate, length-replicate}
 use Rattle.boxes.specs.declared.shape.Shape.{Shape}
 use Rattle.boxes.specs.Layouts.{layout, widths, Cut}
 use Rattle.boxes.proofs.Layouts.{layout_cut}
-use Rattle.std.proofs.lemmas.Nat.{pow_pos, pow-add, mul-add-lt, shl_whole}
+use Rattle.std.proofs.lemmas.Nat.{pow-add, mul-add-lt, shl_whole}
 use Rattle.std.proofs.lemmas.List.{drop_more, drop_all}
 use Rattle.std.specs.List.{AllByRecursion as All}
 use Rattle.field.specs.Widths.{low_part}

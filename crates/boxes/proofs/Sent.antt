@@ -1,8 +1,7 @@
 -- A CPA box as the code works it out, on numbers of which the lowest bits count.
-use Rattle.std.proofs.Common.{◌≡◌, ℕ, ◌+◌, ◌-◌, ◌%◌, ◌^◌, ◌<◌, sym, refl, ap, ◌∙◌}
+use Rattle.std.proofs.Common.{◌≡◌, ℕ, ◌+◌, ◌-◌, ◌%◌, ◌^◌, sym, ap, ◌∙◌}
 use native.Mathlib.Nat.{mod-mod, add-mod-mod}
-use lib.Bits.{bit_xor, xor_mod, xor_lt}
-use Rattle.std.proofs.lemmas.Nat.{pow_pos, mod_below}
+use lib.Bits.{bit_xor, xor_mod}
 use Rattle.bits.specs.Words.{sum, less, turned, turned_left, turned_right}
 use Rattle.boxes.specs.Boxes.{flex, cpa, cpa_back}
 

@@ -1,5 +1,5 @@
 -- One turn of the loop that adds up a product.
-use Rattle.std.proofs.Common.{◌≡◌, ℕ, zero, suc, ◌+◌, ◌-◌, ◌*◌, ◌/◌, ◌%◌, ◌^◌, ◌<◌, ◌≤◌, sym, ap, ◌∙◌, mul_left_comm, arith}
+use Rattle.std.proofs.Common.{◌≡◌, ℕ, suc, ◌+◌, ◌-◌, ◌*◌, ◌/◌, ◌%◌, ◌^◌, ◌<◌, ◌≤◌, sym, ap, ◌∙◌, mul_left_comm, arith}
 use lib.Bits.{bit_xor, bit_and, xor_assoc, xor_zero_r}
 use Rattle.std.proofs.lemmas.Nat.{and_mask, shl_whole, shr-shr}
 use Rattle.field.specs.Polynomials.{along, doubled, product}

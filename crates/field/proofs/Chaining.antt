@@ -1,8 +1,8 @@
 -- The turns of squaring many times, and of the addition chain.
-use Rattle.std.proofs.Common.{◌≡◌, ℕ, zero, suc, ◌+◌, ◌-◌, ◌/◌, ◌%◌, ◌^◌, ◌<◌, sym, refl, ap, ◌∙◌, arith}
-use Rattle.field.specs.Fields.{mul, square, squared, ones, inverse, IsInverse}
+use Rattle.std.proofs.Common.{◌≡◌, ℕ, suc, ◌+◌, ◌-◌, ◌/◌, ◌%◌, ◌^◌, ◌<◌, sym, refl, ap, ◌∙◌, arith}
+use Rattle.field.specs.Fields.{mul, square, squared, ones, inverse}
 use Rattle.field.specs.Code.{Root}
-use Rattle.field.proofs.Products.{mul_one, one_mul, one_lt}
+use Rattle.field.proofs.Products.{mul_one, one_mul}
 use Rattle.field.proofs.Inverses.{Tested, inverse_is, inverse_again}
 use Rattle.field.proofs.Powers.{squared_last, ones_join}
 

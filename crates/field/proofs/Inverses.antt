@@ -1,16 +1,16 @@
 -- A width and low part that pass the test make a field: each number but 0 has the one inverse a^(2^m - 2), which is its own
 -- inverse. No polynomial is divided by another for it: a^(2^m) is a since x^(2^m) is x, so e = a^(2^m - 1) is its own square,
 -- and by the trace only 0 and 1 are.
-use Rattle.std.proofs.Common.{◌≡◌, ℕ, zero, suc, ◌+◌, ◌-◌, ◌*◌, ◌/◌, ◌%◌, ◌^◌, ◌<◌, ◌≤◌, Bool, true, false, ◌&&◌, ◌||◌, eqb, ltb, leb, ◌⊎◌, sym, refl, ap, ◌∙◌, subst, inl, inr, arith, pow_mono}
+use Rattle.std.proofs.Common.{◌≡◌, ℕ, zero, suc, ◌-◌, ◌^◌, ◌<◌, ◌≤◌, true, ◌&&◌, eqb, ltb, leb, ◌⊎◌, sym, refl, ap, ◌∙◌, subst, inl, inr, arith, pow_mono}
 use lib.Bits.{bit_xor, xor_lt}
-use Rattle.std.proofs.lemmas.Nat.{pow_pos, pow_below}
+use Rattle.std.proofs.lemmas.Nat.{pow_below}
 use Rattle.std.proofs.lemmas.Bool.{and_parts, or_cases, ltb-true, leb-true, eqb-true, false≢true, cases_eq}
 use Rattle.field.specs.Polynomials.{product, Leaves}
-use Rattle.field.specs.Fields.{twice, mul_by, mul, square, squared, ones, trace, traces_small, some_trace, good, inverse, IsInverse}
-use Rattle.field.proofs.Sums.{Adds, adds_none, each}
+use Rattle.field.specs.Fields.{twice, mul, square, squared, ones, trace, traces_small, some_trace, good, inverse, IsInverse}
+use Rattle.field.proofs.Sums.{adds_none, each}
 use Rattle.field.proofs.Along.{along_none, along_zero}
 use Rattle.field.proofs.Products.{Below, twice_linear, twice_below, mul_by_lt, mul_by_twice, mul_comm, mul_assoc, mul_one, one_mul, one_lt, by_one}
-use Rattle.field.proofs.Powers.{mul_crosswise, squared_lt, squared_last, squared_adds, squared_mul, squared_one, ones_lt, ones_mul, trace_lt, trace_adds, trace_scales}
+use Rattle.field.proofs.Powers.{squared_lt, squared_adds, squared_mul, squared_one, ones_lt, ones_mul, trace_adds, trace_scales}
 use Rattle.field.proofs.Remainders.{product_leaves, product_left}
 
 -- what the test says

@@ -1,7 +1,7 @@
 -- Squares in a field of m bits keep sums and products; the powers a^(2^k) and a^(2^k - 1).
-use Rattle.std.proofs.Common.{◌≡◌, ℕ, zero, suc, ◌+◌, ◌-◌, ◌*◌, ◌/◌, ◌%◌, ◌^◌, ◌<◌, ◌≤◌, sym, refl, ap, ◌∙◌, subst, arith}
-use lib.Bits.{bit_xor, xor_assoc, xor_comm, xor_self, xor_zero_l, xor_zero_r, xor_lt}
-use Rattle.field.specs.Fields.{twice, mul_by, mul, square, squared, ones, trace}
+use Rattle.std.proofs.Common.{◌≡◌, ℕ, zero, suc, ◌+◌, ◌^◌, ◌<◌, sym, refl, ap, ◌∙◌, arith}
+use lib.Bits.{bit_xor, xor_assoc, xor_lt}
+use Rattle.field.specs.Fields.{twice, mul, square, squared, ones, trace}
 use Rattle.field.proofs.Sums.{crosswise, cancels, Adds}
 use Rattle.field.proofs.Products.{mul_by_lt, mul_by_adds, mul_by_adds_r, mul_comm, mul_assoc, mul_one, one_mul, one_lt}
 use Rattle.field.proofs.Along.{along_none}

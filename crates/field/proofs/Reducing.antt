@@ -1,9 +1,9 @@
 -- Two folds take a number of up to 2m bits to what it leaves modulo the polynomial.
-use Rattle.std.proofs.Common.{◌≡◌, ℕ, zero, suc, ◌+◌, ◌-◌, ◌*◌, ◌/◌, ◌%◌, ◌^◌, ◌<◌, ◌≤◌, sym, refl, ap, ◌∙◌, mul_left_comm, arith, pow_mono}
-use lib.Bits.{bit_xor, xor_assoc, xor_comm, xor_lt, xor_shifted}
-use Rattle.std.proofs.lemmas.Nat.{pow_pos, pow-add, shr_split, mod_below, shr_below, shl_below}
+use Rattle.std.proofs.Common.{◌≡◌, ℕ, zero, suc, ◌+◌, ◌-◌, ◌*◌, ◌/◌, ◌%◌, ◌^◌, ◌<◌, ◌≤◌, sym, ap, ◌∙◌, mul_left_comm, arith, pow_mono}
+use lib.Bits.{bit_xor, xor_comm, xor_lt, xor_shifted}
+use Rattle.std.proofs.lemmas.Nat.{pow_pos, shr_split, mod_below, shr_below, shl_below}
 use Rattle.field.specs.Polynomials.{product}
-use Rattle.field.specs.Fields.{twice, mul_by, mul}
+use Rattle.field.specs.Fields.{twice, mul}
 use Rattle.field.specs.Code.{low_of, taps, fold, reduced}
 use Rattle.field.proofs.Sums.{pow_suc}
 use Rattle.field.proofs.Along.{up, up_last, along_adds_r, along_power}

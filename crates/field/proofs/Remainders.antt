@@ -4,9 +4,9 @@ use lib.Bits.{bit_xor, xor_assoc, xor_comm, xor_self, xor_zero_r, xor_lt, xor_sh
 use Rattle.std.proofs.lemmas.Nat.{pow_pos, shr_split, mod_below, div_below}
 use Rattle.field.specs.Polynomials.{along, doubled, product, modulus, Leaves}
 use Rattle.field.specs.Fields.{twice, mul_by, mul}
-use Rattle.field.proofs.Sums.{crosswise, cancels, scale, double, once, never, scaled_below, pow_suc}
+use Rattle.field.proofs.Sums.{crosswise, scale, double, once, never, scaled_below, pow_suc}
 use Rattle.field.proofs.Along.{Linear, odd_lt, along_adds, along_adds_r, along_none, along_more, along_power, along_step, along_zero, along_scaled}
-use Rattle.field.proofs.Products.{Below, twice_lt, twice_linear, mul_by_lt, mul_by_adds_r, one_lt, one_mul, up_width}
+use Rattle.field.proofs.Products.{Below, twice_lt, twice_linear, mul_by_lt, one_lt, one_mul, up_width}
 
 -- any number
 abbrev pub Any : ℕ → Type 0

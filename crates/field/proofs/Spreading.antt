@@ -1,13 +1,13 @@
 -- The code's five steps put zeros between the bits of a number: they keep sums, so 32 powers of 2 settle it. What they make of a
 -- leaves the square of a.
-use Rattle.std.proofs.Common.{◌≡◌, ℕ, zero, suc, ◌+◌, ◌-◌, ◌*◌, ◌/◌, ◌%◌, ◌^◌, ◌<◌, ◌≤◌, min, Bool, true, false, ◌&&◌, eqb, ◌⊎◌, sym, refl, ap, ◌∙◌, inl, inr, arith}
+use Rattle.std.proofs.Common.{◌≡◌, ℕ, zero, suc, ◌+◌, ◌*◌, ◌/◌, ◌%◌, ◌^◌, ◌<◌, ◌≤◌, Bool, true, ◌&&◌, eqb, ◌⊎◌, sym, refl, ap, ◌∙◌, inl, inr, arith}
 use lib.Bits.{bit_xor, bit_and, and_zero_r, and_shr, and_mod, xor_shr, xor_mod, xor_block, xor_lt}
 use Rattle.std.proofs.lemmas.Nat.{pow_pos, pow_below}
 use Rattle.std.proofs.lemmas.Bool.{and_parts, eqb-true, cases_eq}
 use Rattle.field.specs.Polynomials.{along}
-use Rattle.field.specs.Fields.{twice, mul, square}
+use Rattle.field.specs.Fields.{twice, square}
 use Rattle.field.specs.Code.{reduced, quadrupled, spread, spaced, spaced_out}
-use Rattle.field.proofs.Sums.{crosswise, Adds, agree, each, pow_suc}
+use Rattle.field.proofs.Sums.{crosswise, agree, each, pow_suc}
 use Rattle.field.proofs.Along.{up, up_join, along_adds_r, along_none, along_power}
 use Rattle.field.proofs.Products.{up_one}
 use Rattle.field.proofs.Powers.{square_adds}

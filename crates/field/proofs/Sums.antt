@@ -1,7 +1,7 @@
 -- Exclusive or as a sum, and maps that keep it: two that agree on the powers of 2 agree.
-use Rattle.std.proofs.Common.{◌≡◌, ℕ, zero, suc, ◌+◌, ◌*◌, ◌/◌, ◌%◌, ◌^◌, ◌<◌, ◌≤◌, sym, refl, ap, ◌∙◌, subst, arith, pow_mono}
-use lib.Bits.{bit_xor, xor_assoc, xor_comm, xor_self, xor_zero_l, xor_zero_r, xor_lt, xor_shifted, xor_step, xor_mod, xor_shr, differ}
-use Rattle.std.proofs.lemmas.Nat.{pow_pos, pow_below, pow-add, shr_split, div_below, mod_below}
+use Rattle.std.proofs.Common.{◌≡◌, ℕ, zero, suc, ◌*◌, ◌/◌, ◌%◌, ◌^◌, ◌<◌, ◌≤◌, sym, refl, ap, ◌∙◌, subst, arith, pow_mono}
+use lib.Bits.{bit_xor, xor_assoc, xor_comm, xor_self, xor_zero_l, xor_zero_r, xor_shifted, xor_step, differ}
+use Rattle.std.proofs.lemmas.Nat.{pow_pos, pow-add, shr_split, div_below, mod_below}
 
 -- the four terms of two sums, summed crosswise
 pub crosswise : (a b c d : ℕ) → bit_xor (bit_xor a b) (bit_xor c d) ≡ bit_xor (bit_xor a c) (bit_xor b d)

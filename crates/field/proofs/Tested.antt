@@ -1,6 +1,6 @@
 -- The test of a field, computed once over the table of widths.
-use Rattle.std.proofs.Common.{◌≡◌, ℕ, ◌<◌, Bool, true, false, ◌&&◌, eqb, ◌⊎◌, List, [], ◌∷◌, sym, refl, ap, ◌∙◌, subst, inl, inr, arith}
-use Rattle.std.proofs.lemmas.Bool.{and_parts, eqb-true, cases_Bool}
+use Rattle.std.proofs.Common.{◌≡◌, ℕ, ◌<◌, Bool, true, false, eqb, List, [], ◌∷◌, refl, ap, ◌∙◌, arith}
+use Rattle.std.proofs.lemmas.Bool.{and_parts, eqb-true}
 use Rattle.field.specs.Polynomials.{along}
 use Rattle.field.specs.Fields.{twice, squared, trace, traces_small, some_trace, good}
 use Rattle.field.specs.Widths.{low_parts, low_in, low_part, all_good}

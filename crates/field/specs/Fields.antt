@@ -1,5 +1,5 @@
 -- The binary fields of the box widths: m bits, modulo x^m plus a low part.
-use Rattle.std.specs.Prelude.{◌≡◌, ℕ, zero, suc, ◌+◌, ◌-◌, ◌*◌, ◌/◌, ◌%◌, ◌^◌, ◌<◌, ◌≤◌, Bool, true, false, ◌&&◌, ◌||◌, ◌==◌, bit_xor, nat_le, nat_lt}
+use Rattle.std.specs.Prelude.{◌≡◌, ℕ, zero, suc, ◌-◌, ◌*◌, ◌/◌, ◌%◌, ◌^◌, ◌<◌, Bool, true, false, ◌&&◌, ◌||◌, ◌==◌, bit_xor, nat_le, nat_lt}
 use Rattle.field.specs.Polynomials.{along, product, Leaves}
 
 -- x times a: one place up, and where a bit leaves the width, the low part in its stead.

@@ -1,5 +1,5 @@
 -- Inverses that are known from elsewhere.
-use Rattle.std.specs.Prelude.{◌≡◌, ℕ, List, [], ◌∷◌}
+use Rattle.std.specs.Prelude.{◌≡◌, List, [], ◌∷◌}
 use Rattle.field.specs.declared.known.Known.{Known}
 use Rattle.field.specs.Fields.{inverse}
 use Rattle.field.specs.Widths.{low_part}

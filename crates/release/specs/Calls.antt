@@ -1,7 +1,7 @@
 -- What each call on a release answers and leaves: by the definition for all inputs, and by every book that
 -- keeps the release.
 use Rattle.std.specs.Prelude.{◌≡◌, ℕ, ◌&&◌, List, [], length, replicate, Ok, Err, Result, nat_le, nat_lt}
-use Rattle.meanings.specs.Meaning.{Meaning, Lawful}
+use Rattle.meanings.specs.Meaning.{Meaning}
 use Rattle.book.specs.declared.refusal.Refusal.{Refusal}
 use Rattle.book.specs.declared.refusal.Refusal.TheVariants.{RowRecords}
 use Rattle.book.specs.declared.role.Role.{Role}

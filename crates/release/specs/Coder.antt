@@ -1,5 +1,5 @@
 -- What coding one number and a row of numbers answers.
-use Rattle.std.specs.Prelude.{ℕ, List, Ok, Err, Result, nat_le}
+use Rattle.std.specs.Prelude.{ℕ, List, Ok, Result, nat_le}
 use Rattle.meanings.specs.Meaning.{Meaning}
 use Rattle.book.specs.declared.refusal.Refusal.{Refusal}
 use Rattle.book.specs.declared.refusal.Refusal.TheVariants.{AboveTop}

@@ -1,5 +1,5 @@
 -- Lists of calls, by what the calls are given.
-use Rattle.std.specs.Prelude.{ℕ, List}
+use Rattle.std.specs.Prelude.{List}
 use Rattle.book.specs.declared.call.Call.{Call}
 use Rattle.book.specs.declared.call.Call.TheVariants.{Put, Withdraw, Show, TurnBack, Tally}
 use Rattle.book.specs.declared.row.Row.{Row}

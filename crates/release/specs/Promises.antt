@@ -5,7 +5,7 @@ use Rattle.book.specs.declared.call.Answer.{Answer}
 use Rattle.book.specs.declared.row.Row.{Row}
 use Rattle.book.specs.Rows.{Setup}
 use Rattle.book.specs.Book.{BookRow, Keeps}
-use Rattle.book.specs.Runs.{Asked, State, answers, after_all, book_answers, book_after_all, Promise}
+use Rattle.book.specs.Runs.{Asked, answers, after_all, book_answers, book_after_all, Promise}
 use Rattle.release.specs.Calls.{open_answer}
 use Rattle.release.specs.Listed.{state_of}
 use Rattle.release.specs.Views.{setup_of, roles_in, with_taken}

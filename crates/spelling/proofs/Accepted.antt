@@ -1,18 +1,17 @@
 -- What an answer of the reader tells: a draft that is spelt has sound parts, and a fault is the first no.
-use Rattle.std.proofs.Common.{◌≡◌, ℕ, zero, suc, ◌+◌, ◌^◌, ◌<◌, ◌≤◌, Bool, true, false, ◌⊎◌, List, [], ◌∷◌, length, get_or, replicate, Ok, Err, Result, sym, refl, ap, ◌∙◌, subst, inl, inr, arith}
+use Rattle.std.proofs.Common.{◌≡◌, ℕ, zero, suc, ◌+◌, ◌^◌, ◌<◌, ◌≤◌, true, false, ◌⊎◌, List, [], ◌∷◌, length, get_or, Ok, Err, Result, sym, refl, ap, ◌∙◌, subst, inl, inr, arith}
 use Rattle.std.specs.List.{AllByRecursion as All}
 use Rattle.std.proofs.lemmas.Bool.{cases_lt, cases_eq, both_ways}
 use Rattle.bits.specs.Orders.{Sound}
 use Rattle.spelling.specs.declared.parts.Parts.{Parts}
-use Rattle.spelling.specs.declared.command.OrderName.{OrderName}
 use Rattle.spelling.specs.declared.command.Part.{Part as PartT}
 use Rattle.spelling.specs.declared.command.Part.TheVariants.{Flow, C0, C1, Order}
 use Rattle.spelling.specs.Commands.{index_of, place_of, part_operands, wide_place}
-use Rattle.spelling.specs.Turns.{number, order_size}
+use Rattle.spelling.specs.Turns.{order_size}
 use Rattle.spelling.specs.Sound.{SoundParts}
 use Rattle.spelling.specs.declared.fault.Fault.{Fault}
-use Rattle.spelling.specs.Told.{Told, Unspelt}
-use Rattle.spelling.specs.Spelling.{Item, Right, Has, Holds, Fits, Given, Needed, Spells, FirstNo, read_parts}
+use Rattle.spelling.specs.Told.{Told}
+use Rattle.spelling.specs.Spelling.{Item, Right, Has, Holds, Fits, Given, Spells, read_parts}
 use Rattle.spelling.proofs.Spelling.{accepted_spells, spells_accepted, fault_first_no}
 
 -- the item of a place

@@ -15,12 +15,12 @@ use Rattle.spelling.specs.declared.reading.Reading.{Reading}
 use Rattle.spelling.specs.declared.reading.Turn.{Turn}
 use Rattle.spelling.specs.declared.reading.Turn.TheVariants.{More}
 use Rattle.spelling.specs.Commands.{command_of, index_of, place_of, part_operands, operands_of, has_use}
-use Rattle.spelling.specs.Turns.{operand, part_fault, put_part, after, turn}
+use Rattle.spelling.specs.Turns.{operand, part_fault, put_part, turn}
 use Rattle.spelling.specs.Steps.{noted}
 use Rattle.spelling.specs.Spelling.{Item, letter_of, written, Right, New, Once, Given, Holds, Has, Before, after_width, after_items}
 use Rattle.spelling.proofs.Turning.{Asked, asked}
 use Rattle.spelling.proofs.Advancing.{Grown, grown, not_end}
-use Rattle.spelling.proofs.Items.{letter, letter_is, letter_means, index_small, place_small, fits_from_none, none_from_fits, new_from, not_given, given_push, given_left, given_last, once_push}
+use Rattle.spelling.proofs.Items.{letter_is, letter_means, index_small, place_small, fits_from_none, none_from_fits, new_from, not_given, given_push, given_left, given_last, once_push}
 
 -- What a part does to the parts before it.
 record Put (p : PartT) (os : List ℕ) (a : Parts) : Type 0 where

@@ -1,19 +1,14 @@
 -- What a turn that goes on, or ends, has found: every question was answered yes.
-use Rattle.std.proofs.Common.{◌≡◌, ℕ, zero, suc, ◌+◌, ◌<◌, ◌≤◌, Bool, true, false, cond, not, ◌&&◌, ◌||◌, eqb, ltb, leb, ◌⊎◌, List, [], ◌∷◌, length, get_or, set, Some, None, Ok, Err, Option, Result, sym, refl, ap, ◌∙◌, inl, inr, arith}
-use Rattle.std.proofs.lemmas.Bool.{and_parts, ltb-true, leb-true, eqb-true, cases_Bool}
-use Rattle.spelling.specs.declared.parts.Parts.{Parts}
-use Rattle.spelling.specs.declared.command.Part.{Part as PartT}
+use Rattle.std.proofs.Common.{◌≡◌, ℕ, ◌+◌, ◌<◌, Bool, true, false, ltb, List, length, get_or, Some, None, Ok, Err, Option, Result, refl, arith}
+use Rattle.std.proofs.lemmas.Bool.{ltb-true}
 use Rattle.spelling.specs.declared.command.Command.{Command}
-use Rattle.spelling.specs.declared.command.Command.TheVariants.{Width, Part, End}
 use Rattle.spelling.specs.declared.fault.Fault.{Fault}
 use Rattle.spelling.specs.declared.fault.Reason.{Reason}
-use Rattle.spelling.specs.declared.fault.Reason.TheVariants.{NoByte, NoCommand, OutOfSequence, NoUse, BadWidth, Missing, GoesOn}
+use Rattle.spelling.specs.declared.fault.Reason.TheVariants.{NoCommand}
 use Rattle.spelling.specs.declared.reading.Reading.{Reading}
 use Rattle.spelling.specs.declared.reading.Turn.{Turn}
-use Rattle.spelling.specs.declared.reading.Turn.TheVariants.{More, Done}
-use Rattle.spelling.specs.Commands.{command_of, place_of, operands_of, part_operands, has_use}
-use Rattle.spelling.specs.Turns.{ask, in_sequence, operand, part_fault, put_part, with_width, complete, after, given_command, command_at, turn, Good}
-use Rattle.spelling.specs.Steps.{noted}
+use Rattle.spelling.specs.Commands.{command_of, operands_of, has_use}
+use Rattle.spelling.specs.Turns.{ask, in_sequence, after, given_command, command_at, turn}
 
 err_ok : {X : Type 0} {f : Fault} {x : X} → Err f ≡ Ok x → ⊥
 err_ok e = let z : ◌≡◌ {A = ℕ} 0 1 = cc in absurd (omega arith)

@@ -1,5 +1,5 @@
 -- The commands of a draft: their letters, the bytes of their operands, and which widths have a use for them.
-use Rattle.std.specs.Prelude.{ℕ, ◌+◌, Bool, true, false, cond, ◌||◌, Some, None, Option, ◌==◌, nat_lt}
+use Rattle.std.specs.Prelude.{ℕ, ◌+◌, Bool, true, cond, ◌||◌, Some, None, Option, ◌==◌, nat_lt}
 use Rattle.spelling.specs.declared.parts.Flow.TheVariants.{Flex, Cpa}
 use Rattle.spelling.specs.declared.command.OrderName.{OrderName}
 use Rattle.spelling.specs.declared.command.OrderName.TheVariants.{R0, R1, R2, R3, R4, R5}

@@ -1,5 +1,5 @@
 -- The faults of a draft: their numbers, layers and words.
-use Rattle.std.specs.Prelude.{ℕ, Bool, true, false, List, Some, None, codes, Option}
+use Rattle.std.specs.Prelude.{ℕ, List, Some, None, codes, Option}
 use Rattle.spelling.specs.declared.fault.Layer.{Layer}
 use Rattle.spelling.specs.declared.fault.Layer.TheVariants.{Bytes, Commands, Orders}
 use Rattle.spelling.specs.declared.fault.Reason.{Reason}

@@ -1,5 +1,5 @@
 -- What holds of the parts of an accepted draft.
-use Rattle.std.specs.Prelude.{◌≡◌, ℕ, ◌^◌, ◌<◌, ◌≤◌, List, [], length, slice_index_or}
+use Rattle.std.specs.Prelude.{◌≡◌, ℕ, ◌^◌, ◌<◌, ◌≤◌, [], length, slice_index_or}
 use Rattle.bits.specs.Orders.{Sound}
 use Rattle.spelling.specs.declared.parts.Parts.{Parts}
 

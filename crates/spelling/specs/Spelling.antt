@@ -1,18 +1,15 @@
 -- What the bytes of a draft spell: W and a width, every part that the width needs, once each and in any order, and Z.
-use Rattle.std.specs.Prelude.{◌≡◌, ℕ, zero, suc, ◌+◌, ◌^◌, ◌<◌, ◌≤◌, Bool, true, false, ◌⊎◌, List, [], ◌∷◌, ◌++◌, length, replicate, Ok, Err, Result, ◌≢◌, slice_index_or}
+use Rattle.std.specs.Prelude.{◌≡◌, ℕ, zero, suc, ◌+◌, ◌^◌, ◌<◌, ◌≤◌, true, false, ◌⊎◌, List, [], ◌∷◌, ◌++◌, length, replicate, Ok, Err, Result, ◌≢◌, slice_index_or}
 use Rattle.std.specs.List.{AllByRecursion as All}
 use Rattle.bits.specs.Orders.{Sound}
-use Rattle.spelling.specs.declared.parts.Flow.{Flow as FlowT}
 use Rattle.spelling.specs.declared.parts.Flow.TheVariants.{Flex, Cpa}
 use Rattle.spelling.specs.declared.parts.Parts.{Parts}
-use Rattle.spelling.specs.declared.command.OrderName.{OrderName}
 use Rattle.spelling.specs.declared.command.Part.{Part as PartT}
 use Rattle.spelling.specs.declared.command.Part.TheVariants.{Flow, C0, C1, Order}
 use Rattle.spelling.specs.declared.command.Command.TheVariants.{Part}
 use Rattle.spelling.specs.declared.fault.Fault.{Fault}
 use Rattle.spelling.specs.declared.fault.Reason.TheVariants.{NoByte}
 use Rattle.spelling.specs.declared.reading.Reading.{Reading}
-use Rattle.spelling.specs.declared.reading.Turn.{Turn}
 use Rattle.spelling.specs.declared.reading.Turn.TheVariants.{More, Done}
 use Rattle.spelling.specs.Commands.{index_of, place_of, part_operands, has_use, wide_place}
 use Rattle.spelling.specs.Turns.{blank, start, with_width, put_part, number, order_size, turn}

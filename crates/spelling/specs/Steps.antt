@@ -1,5 +1,5 @@
 -- Words of the code's own steps.
-use Rattle.std.specs.Prelude.{ℕ, ◌+◌, ◌^◌, Bool, true, false, cond, List, [], ◌∷◌, length, Some, None, Ok, Err, Option, Result, slice_set}
+use Rattle.std.specs.Prelude.{ℕ, ◌+◌, true, List, Some, None, Ok, Err, Result, slice_set}
 use Rattle.spelling.specs.declared.parts.Parts.{Parts}
 use Rattle.spelling.specs.declared.command.Part.{Part as PartT}
 use Rattle.spelling.specs.declared.fault.Fault.{Fault}

@@ -1,5 +1,5 @@
 -- One command of a draft: the questions in their sequence, of which the first no decides, and what it leads to.
-use Rattle.std.specs.Prelude.{ℕ, zero, suc, ◌+◌, ◌*◌, ◌^◌, ◌<◌, ◌≤◌, Bool, true, false, cond, not, ◌&&◌, ◌||◌, List, [], ◌∷◌, length, take, drop, replicate, Some, None, Ok, Err, Option, Result, ◌==◌, nat_le, nat_lt, slice_index, slice_index_or, slice_set}
+use Rattle.std.specs.Prelude.{ℕ, zero, suc, ◌+◌, ◌^◌, ◌<◌, ◌≤◌, Bool, true, false, cond, not, ◌&&◌, ◌||◌, List, length, take, drop, replicate, Some, None, Ok, Err, Option, Result, ◌==◌, nat_le, nat_lt, slice_index, slice_index_or, slice_set}
 use Rattle.std.specs.Simd.Lanes.{number_l}
 use Rattle.bits.specs.Orders.{fault_at}
 use Rattle.spelling.specs.declared.parts.Flow.TheVariants.{Flex}
@@ -14,7 +14,7 @@ use Rattle.spelling.specs.declared.fault.Reason.TheVariants.{NoByte, NoCommand, 
 use Rattle.spelling.specs.declared.reading.Reading.{Reading}
 use Rattle.spelling.specs.declared.reading.Turn.{Turn}
 use Rattle.spelling.specs.declared.reading.Turn.TheVariants.{More, Done}
-use Rattle.spelling.specs.Commands.{command_of, index_of, place_of, operands_of, part_operands, has_use, wide_place}
+use Rattle.spelling.specs.Commands.{command_of, index_of, place_of, operands_of, part_operands, has_use}
 
 -- A question: where the answer is no, the fault; where it is yes, what comes next.
 abbrev pub ask : {X : Type 0} → Bool → Reason → ℕ → Result X Fault → Result X Fault

@@ -1,5 +1,5 @@
 -- A coding that the library does not supply: the numbers up to the top in reverse.
-use Rattle.std.specs.Prelude.{◌≡◌, ℕ, ◌-◌}
+use Rattle.std.specs.Prelude.{ℕ, ◌-◌}
 use Rattle.std.proofs.Common.{arith}
 use Rattle.meanings.specs.Meaning.{Meaning, Lawful}
 

@@ -1,4 +1,4 @@
-use Rattle.std.proofs.Common.{◌≡◌, ◌%◌, ◌^◌, ◌<◌, ap, ◌∙◌}
+use Rattle.std.proofs.Common.{◌%◌, ◌^◌, ap, ◌∙◌}
 use Rattle.field.specs.Fields.{inverse}
 use Rattle.boxes.specs.Boxes.{flex}
 use Rattle.boxes.proofs.cell.inverse_of.Goals as goal

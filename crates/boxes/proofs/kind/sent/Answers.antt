@@ -1,4 +1,4 @@
-use Rattle.std.proofs.Common.{◌≡◌, ◌^◌, ◌<◌, ap, ◌∙◌}
+use Rattle.std.proofs.Common.{ap, ◌∙◌}
 use Rattle.bits.specs.Words.{sum, turned_left}
 use Rattle.boxes.proofs.Sent.{sent_is}
 use Rattle.boxes.proofs.kind.sent.Goals as goal

@@ -1,4 +1,4 @@
-use Rattle.std.proofs.Common.{◌≡◌, ◌%◌, ◌^◌, ◌<◌, ap, ◌∙◌}
+use Rattle.std.proofs.Common.{◌%◌, ◌^◌, ◌<◌, ap, ◌∙◌}
 use lib.Bits.{xor_lt}
 use Rattle.std.proofs.lemmas.Nat.{pow_pos, mod_below}
 use Rattle.bits.specs.Words.{less, turned_right}

@@ -1,4 +1,4 @@
-use Rattle.std.proofs.Common.{◌≡◌, ◌∙◌}
+use Rattle.std.proofs.Common.{◌∙◌}
 use Rattle.spelling.proofs.Operands.{eight}
 use Rattle.draft.proofs.operand.number_at.Goals as goal
 

@@ -1,4 +1,4 @@
-use Rattle.std.proofs.Common.{◌≡◌, length, sym, ap, ◌∙◌}
+use Rattle.std.proofs.Common.{length, ap, ◌∙◌}
 use Rattle.spelling.specs.Turns.{first_fault}
 use Rattle.spelling.proofs.Operands.{none_at_fault, first_found}
 use Rattle.draft.proofs.operand.order_fault.Goals as goal

@@ -1,4 +1,4 @@
-use Rattle.std.proofs.Common.{sym, refl, ap, ◌∙◌, add-zero, zero-add, arith, rules}
+use Rattle.std.proofs.Common.{ap, zero-add, arith}
 use Rattle.std.proofs.lemmas.List.{drop_all}
 use Rattle.book.specs.Raw.{count_marks}
 use Rattle.release.proofs.Marks.{count_next}

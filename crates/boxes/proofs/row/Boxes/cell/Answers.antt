@@ -1,4 +1,4 @@
-use Rattle.std.proofs.Common.{◌≡◌, sym, ◌∙◌, arith}
+use Rattle.std.proofs.Common.{◌∙◌, arith}
 use Rattle.boxes.specs.Layouts.{layout}
 use Rattle.boxes.proofs.Rows.{wide_at}
 use Rattle.boxes.proofs.row.Boxes.cell.Goals as goal

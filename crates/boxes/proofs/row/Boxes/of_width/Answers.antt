@@ -1,4 +1,4 @@
-use Rattle.std.proofs.Common.{◌≡◌, ap, ◌∙◌}
+use Rattle.std.proofs.Common.{ap, ◌∙◌}
 use Rattle.boxes.proofs.row.Boxes.of_width.Goals as goal
 
 pub invariant_of-result : goal.invariant_of-result

@@ -1,4 +1,4 @@
-use Rattle.std.proofs.Common.{◌≡◌, ◌+◌, ◌*◌, ◌%◌, ◌^◌, ◌<◌, ◌≤◌, length, sym, ap, ◌∙◌, arith}
+use Rattle.std.proofs.Common.{◌^◌, ◌<◌, ◌≤◌, length, ap, ◌∙◌, arith}
 use Rattle.boxes.specs.Layouts.{layout, widths}
 use Rattle.boxes.proofs.Layouts.{layout_cut}
 use Rattle.boxes.proofs.Rows.{rowed_start, rowed_more, rowed_end, length_widths, bits_widths, next_fits, shifted, added}

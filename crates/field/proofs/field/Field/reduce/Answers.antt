@@ -1,6 +1,5 @@
-use Rattle.std.proofs.Common.{◌≡◌, ◌+◌, ◌^◌, ◌<◌, sym, ap, ◌∙◌, arith, rules}
+use Rattle.std.proofs.Common.{ap, ◌∙◌, arith}
 use Rattle.field.specs.Code.{fold}
-use Rattle.field.proofs.Inverses.{Tested}
 use Rattle.field.proofs.Tested.{field_good}
 use Rattle.field.proofs.Reducing.{two_folds, folded_small, reduced_lt}
 use Rattle.field.proofs.field.Field.reduce.Goals as goal

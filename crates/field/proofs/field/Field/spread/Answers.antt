@@ -1,5 +1,4 @@
-use Rattle.std.proofs.Common.{◌≡◌, ◌^◌, ◌<◌, ◌≤◌, ◌∙◌, arith, pow_mono}
-use Rattle.field.specs.Code.{spread, spaced_out}
+use Rattle.std.proofs.Common.{◌^◌, ◌≤◌, ◌∙◌, arith, pow_mono}
 use Rattle.field.proofs.Tested.{field_good}
 use Rattle.field.proofs.Spreading.{steps_spread, spread_lt, spread_reduces}
 use Rattle.field.proofs.field.Field.spread.Goals as goal

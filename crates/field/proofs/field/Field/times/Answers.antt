@@ -1,4 +1,4 @@
-use Rattle.std.proofs.Common.{arith, rules}
+use Rattle.std.proofs.Common.{arith}
 use Rattle.field.proofs.Adding.{term_is, turn, ended}
 use Rattle.field.proofs.Tested.{field_good}
 use Rattle.field.proofs.Remainders.{product_below, product_leaves}

@@ -1,5 +1,4 @@
-use Rattle.std.proofs.Common.{◌≡◌, vec_items, refl, ap, ◌∙◌, arith}
-use Rattle.release.specs.Listed.{state_of}
+use Rattle.std.proofs.Common.{◌≡◌, refl, ap, ◌∙◌, arith}
 use Rattle.release.specs.Views.{setup_of, with_taken}
 use Rattle.release.proofs.Running.{run_begins, run_goes, run_ends}
 use Rattle.release.proofs.plain.Plain.make_all.Goals as goal

@@ -1,4 +1,4 @@
-use Rattle.std.proofs.Common.{sym, refl, ap, ◌∙◌}
+use Rattle.std.proofs.Common.{refl, ap, ◌∙◌}
 use Rattle.book.specs.Rows.{coding_in}
 use Rattle.book.specs.declared.role.Role.TheVariants.{Clear}
 use Rattle.release.specs.Coder.{one_back}
