@@ -1,6 +1,6 @@
 -- The book of a release: the rows that were put, by their numbers, standing or withdrawn.
 use Rattle.std.specs.Prelude.{◌≡◌, ℕ, suc, ◌+◌, ◌-◌, ◌≤◌, Bool, true, false, ◌&&◌, List, [], ◌∷◌, ◌++◌, map, length, replicate, Ok, Err, Result, ◌==◌, nat_le, nat_lt, slice_index, slice_index_or, slice_set}
-use Rattle.std.specs.List.{AllByRecursion as All}
+use Rattle.std.specs.List.{AllByRecursion}
 use Rattle.book.specs.declared.refusal.Refusal.{Refusal}
 use Rattle.book.specs.declared.refusal.Refusal.TheVariants.{AboveTop, NumberCount, NoPlaceFree, NotStanding, NoSuchColumn}
 use Rattle.book.specs.declared.role.Role.TheVariants.{Clear}
@@ -76,5 +76,5 @@ pub record Keeps (s : Setup) (taken : ℕ) (memory : List Row) (b : List BookRow
   pub places : taken ≡ length b
   pub fits : length b ≤ s.records
   pub narrow : length s.roles ≤ 8
-  pub rows : All (λ r. (length r.numbers ≡ length s.roles) × (within s s.roles r.numbers ≡ true)) b
+  pub rows : AllByRecursion (λ r. (length r.numbers ≡ length s.roles) × (within s s.roles r.numbers ≡ true)) b
   pub held : memory ≡ memory_of s b

@@ -1,6 +1,6 @@
 -- Rows of boxes undo each other where their boxes do.
 use Rattle.std.proofs.Common.{◌≡◌, ℕ, ◌+◌, ◌*◌, ◌/◌, ◌%◌, ◌^◌, ◌<◌, List, [], ◌∷◌, ap, ◌∙◌, arith}
-use Rattle.std.specs.List.{AllByRecursion as All}
+use Rattle.std.specs.List.{AllByRecursion}
 use Rattle.std.proofs.lemmas.Nat.{pow_pos, pow-add, mod_below, shr_below, shr_high, mod_low, shr_split, mul-add-lt}
 use Rattle.field.specs.Widths.{low_part}
 use Rattle.boxes.specs.Boxes.{Undone, layer, bits_of, flex_box, cpa_box, cpa_box_back, cut}
@@ -14,7 +14,7 @@ Boxed f g = (p m : ℕ) → 0 < low_part m → Undone m (f p m) (g p m)
 upper : (m k a b : ℕ) → a < 2 ^ m → b < 2 ^ k → b * 2 ^ m + a < 2 ^ (m + k)
 upper m k a b ha hb = rw (pow-add 2 m k) (mul-add-lt b (2 ^ m) a (2 ^ k) hb ha)
 
-pub layer_lt : (f g : ℕ → ℕ → ℕ → ℕ) → Boxed f g → (p : ℕ) (ms : List ℕ) → All (λ m. 0 < low_part m) ms → (x : ℕ) → x < 2 ^ bits_of ms → layer f p ms x < 2 ^ bits_of ms
+pub layer_lt : (f g : ℕ → ℕ → ℕ → ℕ) → Boxed f g → (p : ℕ) (ms : List ℕ) → AllByRecursion (λ m. 0 < low_part m) ms → (x : ℕ) → x < 2 ^ bits_of ms → layer f p ms x < 2 ^ bits_of ms
 unfolding layer
 layer_lt f g boxed p [] fields x h = omega arith
 layer_lt f g boxed p (m ∷ ms) fields x h =
@@ -25,7 +25,7 @@ layer_lt f g boxed p (m ∷ ms) fields x h =
     high : (m k x : ℕ) → x < 2 ^ (m + k) → x / 2 ^ m < 2 ^ k
     high m k x h = let e : m + k ≡ k + m = omega arith in shr_below x k m (rw e at h)
 
-pub layer_undoes : (f g : ℕ → ℕ → ℕ → ℕ) → Boxed f g → (p : ℕ) (ms : List ℕ) → All (λ m. 0 < low_part m) ms → (x : ℕ) → x < 2 ^ bits_of ms
+pub layer_undoes : (f g : ℕ → ℕ → ℕ → ℕ) → Boxed f g → (p : ℕ) (ms : List ℕ) → AllByRecursion (λ m. 0 < low_part m) ms → (x : ℕ) → x < 2 ^ bits_of ms
     → layer g p ms (layer f p ms x) ≡ x
 unfolding layer
 layer_undoes f g boxed p [] fields x h = omega arith
@@ -46,7 +46,7 @@ turned_boxes f g boxed p m some =
     let u = boxed p m some in
     record { within = u.lands; lands = u.within; undoes = u.redoes; redoes = u.undoes }
 
-pub layer_undone : (f g : ℕ → ℕ → ℕ → ℕ) → Boxed f g → (ms : List ℕ) → All (λ m. 0 < low_part m) ms → Undone (bits_of ms) (layer f 0 ms) (layer g 0 ms)
+pub layer_undone : (f g : ℕ → ℕ → ℕ → ℕ) → Boxed f g → (ms : List ℕ) → AllByRecursion (λ m. 0 < low_part m) ms → Undone (bits_of ms) (layer f 0 ms) (layer g 0 ms)
 layer_undone f g boxed ms fields =
     record {
       within = layer_lt f g boxed 0 ms fields;

@@ -6,7 +6,7 @@ use Rattle.boxes.specs.Layouts.{layout, widths, Cut}
 use Rattle.boxes.proofs.Layouts.{layout_cut}
 use Rattle.std.proofs.lemmas.Nat.{pow-add, mul-add-lt, shl_whole}
 use Rattle.std.proofs.lemmas.List.{drop_more, drop_all}
-use Rattle.std.specs.List.{AllByRecursion as All}
+use Rattle.std.specs.List.{AllByRecursion}
 use Rattle.field.specs.Widths.{low_part}
 use Rattle.boxes.specs.Boxes.{Undone, layer, bits_of, flex_box, cpa_box, cpa_box_back, Rows}
 use Rattle.boxes.proofs.Layers.{layer_undone, flex_boxed, cpa_boxed}
@@ -71,7 +71,7 @@ room f n ms x i place left out m r h em =
     let at = rw split at r.at in
     omega (arith, at)
 
-all_replicate : (k w : ℕ) → (0 < k → 0 < low_part w) → All (λ m. 0 < low_part m) (replicate k w)
+all_replicate : (k w : ℕ) → (0 < k → 0 < low_part w) → AllByRecursion (λ m. 0 < low_part m) (replicate k w)
 all_replicate zero w h = tt
 all_replicate (suc k) w h = (h (omega arith), all_replicate k w (λ _. h (omega arith)))
 
@@ -87,7 +87,7 @@ cut_rows n s cut =
     whole : bits_of (widths s) ≡ n
     whole = bits_widths n s cut
 
-    fields : All (λ m. 0 < low_part m) (widths s)
+    fields : AllByRecursion (λ m. 0 < low_part m) (widths s)
     fields = (cut.last, all_replicate (s.count - 1) s.wide (λ some. cut.wide (omega arith)))
 
 -- both, of the boxes of a width

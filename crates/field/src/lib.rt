@@ -4,7 +4,7 @@
 
 ghost use Rattle.std.specs.Prelude.{◌≡◌};
 ghost use Rattle.field.specs.Known.{known, Right};
-ghost use Rattle.std.specs.List.{AllByRecursion as All};
+ghost use Rattle.std.specs.List.{AllByRecursion};
 
 use known::Known;
 
@@ -14,7 +14,7 @@ pub mod known;
 // Four inverses that anyone can work out again, held to the field's rule.
 pub fn known_inverses() -> [Known; 4]
     ensures table { result ≡ known }
-    ensures right { All Right known }
+    ensures right { AllByRecursion Right known }
 {
     known_right();
     [
@@ -42,5 +42,5 @@ pub fn known_inverses() -> [Known; 4]
 }
 
 fn known_right()
-    ensures { All Right known }
+    ensures { AllByRecursion Right known }
 {}

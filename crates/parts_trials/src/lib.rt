@@ -2,7 +2,7 @@
 #![tactic(auto)]
 
 #[cfg(test)]
-mod boxes;
+mod cuts;
 #[cfg(test)]
 mod fields;
 #[cfg(test)]

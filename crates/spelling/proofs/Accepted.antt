@@ -1,6 +1,6 @@
 -- What an answer of the reader tells: a draft that is spelt has sound parts, and a fault is the first no.
 use Rattle.std.proofs.Common.{◌≡◌, ℕ, zero, suc, ◌+◌, ◌^◌, ◌<◌, ◌≤◌, true, false, ◌⊎◌, List, [], ◌∷◌, length, get_or, Ok, Err, Result, sym, refl, ap, ◌∙◌, subst, inl, inr, arith}
-use Rattle.std.specs.List.{AllByRecursion as All}
+use Rattle.std.specs.List.{AllByRecursion}
 use Rattle.std.proofs.lemmas.Bool.{cases_lt, cases_eq, both_ways}
 use Rattle.bits.specs.Orders.{Sound}
 use Rattle.spelling.specs.declared.parts.Parts.{Parts}
@@ -23,7 +23,7 @@ record Found (n : ℕ) (p : Parts) (k : ℕ) : Type 0 where
   fits : Fits n part operand
   has : Holds p part operand
 
-found : (n : ℕ) (p : Parts) (k : ℕ) (is : List Item) → Given k is → All (Right n) is → All (Has p) is → Found n p k
+found : (n : ℕ) (p : Parts) (k : ℕ) (is : List Item) → Given k is → AllByRecursion (Right n) is → AllByRecursion (Has p) is → Found n p k
 found n p k [] g r h = absurd g
 found n p k (i ∷ is) (inl e) r h = record { part = i.part; operand = i.operand; at = e; long = r.0.long; fits = r.0.fits; has = h.0 }
 found n p k (i ∷ is) (inr g) r h = found n p k is g r.1 h.1

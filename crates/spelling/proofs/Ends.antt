@@ -1,6 +1,6 @@
 -- The first command of a draft, which is W, and the last, which is Z.
 use Rattle.std.proofs.Common.{◌≡◌, ℕ, zero, suc, ◌+◌, ◌<◌, ◌≤◌, Bool, true, false, ◌&&◌, ◌||◌, eqb, leb, ◌⊎◌, List, [], ◌∷◌, ◌++◌, length, get_or, drop, Some, None, Ok, Option, Result, sym, refl, ap, ◌∙◌, subst, inl, inr, arith}
-use Rattle.std.specs.List.{AllByRecursion as All}
+use Rattle.std.specs.List.{AllByRecursion}
 use Rattle.std.proofs.lemmas.List.{drop_all}
 use Rattle.std.proofs.lemmas.Bool.{and_parts, and_from, or_cases, or_left, or_right, lt-ltb, leb-true, le-leb, eq-eqb, true≢false, cases_lt}
 use Rattle.spelling.specs.declared.parts.Parts.{Parts}
@@ -144,7 +144,7 @@ complete_from n given all =
     go (inr h) = or_left (leb n 32) (above given) (le-leb n 32 h)
 
 -- What a width has no use for is zero.
-pub kept_unused : (n : ℕ) (items : List Item) (s : Reading) → All (Right n) items → Kept n items s → n ≤ 32 → Unused s.parts
+pub kept_unused : (n : ℕ) (items : List Item) (s : Reading) → AllByRecursion (Right n) items → Kept n items s → n ≤ 32 → Unused s.parts
 kept_unused n items s right kept h =
     (kept.no_c1 (λ g. not 2 refl g), kept.no_four (λ g. not 7 refl g), kept.no_five (λ g. not 8 refl g))
   where

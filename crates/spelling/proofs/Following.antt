@@ -1,6 +1,6 @@
 -- A reading that follows some items: what it has noted, and how one more item leads on.
 use Rattle.std.proofs.Common.{◌≡◌, ℕ, zero, suc, ◌+◌, ◌<◌, ◌≤◌, true, false, not, ltb, ◌⊎◌, List, [], ◌∷◌, ◌++◌, length, get_or, drop, set, replicate, Some, None, Ok, Err, Option, Result, sym, refl, ap, ◌∙◌, subst, inl, inr, arith}
-use Rattle.std.specs.List.{AllByRecursion as All}
+use Rattle.std.specs.List.{AllByRecursion}
 use Rattle.std.proofs.lemmas.List.{append-nil, append_assoc, length-append, length-set, get_or-set_same, get_or-set_other, get_or_at, drop_at, drop-drop, take_at, drop_more, take-append-drop, length-take-le, length-drop}
 use Rattle.std.proofs.ByRecursion.{All-push}
 use Rattle.std.proofs.lemmas.Bool.{and_parts, and_from, not-true, not_from_false, lt-ltb, cases_Bool, eqb-true, both_ways, true≢false, cases_eq}
@@ -68,7 +68,7 @@ put (Order k) os a = record {
     keeps C1 l e h = h
     keeps (Order m) l e h = get_or-set_other a.orders (index_of k) (index_of m) os [] (λ x. e (omega arith)) ∙ h
 
-has_kept : (a : Parts) (p : PartT) (os : List ℕ) (is : List Item) → New p is → All (Has a) is → All (Has (put_part p os a)) is
+has_kept : (a : Parts) (p : PartT) (os : List ℕ) (is : List Item) → New p is → AllByRecursion (Has a) is → AllByRecursion (Has (put_part p os a)) is
 has_kept a p os [] new h = tt
 has_kept a p os (i ∷ is) new h = ((put p os a).keeps i.part i.operand new.0 h.0, has_kept a p os is new.1 h.1)
 
@@ -92,7 +92,7 @@ pub record Kept (n : ℕ) (is : List Item) (s : Reading) : Type 0 where
   pub marks : (k : ℕ) → get_or s.given k false ≡ true → Given k is
   pub marked : (k : ℕ) → Given k is → get_or s.given k false ≡ true
   pub six : length s.parts.orders ≡ 6
-  pub has : All (Has s.parts) is
+  pub has : AllByRecursion (Has s.parts) is
   pub no_c1 : (Given 2 is → ⊥) → s.parts.c1 ≡ 0
   pub no_four : (Given 7 is → ⊥) → get_or s.parts.orders 4 [] ≡ replicate 64 0
   pub no_five : (Given 8 is → ⊥) → get_or s.parts.orders 5 [] ≡ replicate 64 0
@@ -160,7 +160,7 @@ pub record Follows (bytes : List ℕ) (s : Reading) (n : ℕ) (items : List Item
   pub least : 24 ≤ n
   pub most : n ≤ 64
   pub is : bytes ≡ 87 ∷ (n ∷ (written items ++ rest))
-  pub right : All (Right n) items
+  pub right : AllByRecursion (Right n) items
   pub once : Once items
   pub reading : s ≡ after_items (after_width n) items
   pub kept : Kept n items s

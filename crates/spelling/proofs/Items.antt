@@ -1,6 +1,6 @@
 -- Items: their letters, what fits, which places they give, and what a draft has of them.
 use Rattle.std.proofs.Common.{◌≡◌, ℕ, zero, suc, ◌+◌, ◌^◌, ◌<◌, ◌≤◌, Bool, true, false, cond, eqb, ltb, ◌⊎◌, List, [], ◌∷◌, ◌++◌, length, get_or, replicate, Some, None, Option, sym, refl, ap, ◌∙◌, subst, inl, inr, arith}
-use Rattle.std.specs.List.{AllByRecursion as All}
+use Rattle.std.specs.List.{AllByRecursion}
 use Rattle.std.proofs.lemmas.List.{ext_get_or}
 use Rattle.std.proofs.lemmas.Bool.{ltb-true, lt-ltb, eqb-true, true≢false, cases_eq, cases_lt}
 use Rattle.bits.specs.Orders.{fault_at, Sound}
@@ -165,7 +165,7 @@ pub once_new : (is : List Item) (i : Item) (js : List Item) → Once (is ++ (i �
 once_new [] i js once = tt
 once_new (j ∷ is) i js once = ((λ e. new_at j.part is i js once.0 (sym e)), once_new is i js once.1)
 
-pub all_at : {X : Type 0} (P : X → Type 0) (is : List X) (i : X) (js : List X) → All P (is ++ (i ∷ js)) → P i
+pub all_at : {X : Type 0} (P : X → Type 0) (is : List X) (i : X) (js : List X) → AllByRecursion P (is ++ (i ∷ js)) → P i
 all_at P [] i js a = a.0
 all_at P (j ∷ is) i js a = all_at P is i js a.1
 
@@ -174,7 +174,7 @@ useful_wide n true e h = ltb-true 32 n e
 useful_wide n false e h = absurd (true≢false (sym h))
 
 -- The places for widths above 32 are given only there.
-pub given_wide : (n : ℕ) (is : List Item) → All (Right n) is → (k : ℕ) → Given k is → wide_place k ≡ true → 32 < n
+pub given_wide : (n : ℕ) (is : List Item) → AllByRecursion (Right n) is → (k : ℕ) → Given k is → wide_place k ≡ true → 32 < n
 given_wide n [] right k g w = absurd g
 given_wide n (i ∷ is) right k (inl e) w = useful_wide n (wide_place (place_of i.part)) right.0.useful (ap wide_place e ∙ w)
 given_wide n (i ∷ is) right k (inr g) w = given_wide n is right.1 k g w
@@ -199,7 +199,7 @@ same_of a b (Order k) os h i = record {
   lists = λ j e. let f : index_of k ≡ j = omega arith in subst (λ x. get_or a.orders x [] ≡ get_or b.orders x []) f (h ∙ sym i);
 }
 
-same_given : (a b : Parts) (is : List Item) → All (Has a) is → All (Has b) is → (k : ℕ) → Given k is → Same a b k
+same_given : (a b : Parts) (is : List Item) → AllByRecursion (Has a) is → AllByRecursion (Has b) is → (k : ℕ) → Given k is → Same a b k
 same_given a b [] h i k g = absurd g
 same_given a b (j ∷ is) h i k (inl e) = subst (Same a b) e (same_of a b j.part j.operand h.0 i.0)
 same_given a b (j ∷ is) h i k (inr g) = same_given a b is h.1 i.1 k g
@@ -228,7 +228,7 @@ six_cases P a b c d e f (suc (suc (suc (suc (suc zero))))) h = f
 six_cases P a b c d e f (suc (suc (suc (suc (suc (suc j)))))) h = absurd (omega arith)
 
 pub parts_same : (n : ℕ) (a b : Parts) (is : List Item) → a.width ≡ n → b.width ≡ n → ((k : ℕ) → Needed n k → Given k is)
-    → All (Has a) is → All (Has b) is → length a.orders ≡ 6 → length b.orders ≡ 6 → (n ≤ 32 → Unused a) → (n ≤ 32 → Unused b) → a ≡ b
+    → AllByRecursion (Has a) is → AllByRecursion (Has b) is → length a.orders ≡ 6 → length b.orders ≡ 6 → (n ≤ 32 → Unused a) → (n ≤ 32 → Unused b) → a ≡ b
 parts_same n a b is wa wb all ha hb sa sb ua ub =
     same_parts a b (wa ∙ sym wb) ((low 0 (omega arith) refl).flows refl) ((low 1 (omega arith) refl).c0s refl) (c1_same (cases_lt 32 n))
     (six_same a.orders b.orders sa sb

@@ -1,6 +1,6 @@
 -- The reader accepts what spells a draft and nothing else, and its fault is the first no.
 use Rattle.std.proofs.Common.{◌≡◌, ℕ, zero, suc, ◌+◌, ◌<◌, List, [], ◌∷◌, ◌++◌, length, Ok, Err, Result, sym, refl, ap, ◌∙◌, subst, inl, inr, arith}
-use Rattle.std.specs.List.{AllByRecursion as All}
+use Rattle.std.specs.List.{AllByRecursion}
 use Rattle.std.proofs.lemmas.List.{append-nil, append_assoc}
 use Rattle.spelling.specs.declared.parts.Parts.{Parts}
 use Rattle.spelling.specs.declared.fault.Fault.{Fault}
@@ -46,7 +46,7 @@ accepted_spells (suc k) bytes p e = go (leads_to (turn bytes start))
 
 -- What spells a draft is accepted.
 
-module _ (bytes : List ℕ) (n : ℕ) (whole : List Item) (p : Parts) (right : All (Right n) whole) (once : Once whole)
+module _ (bytes : List ℕ) (n : ℕ) (whole : List Item) (p : Parts) (right : AllByRecursion (Right n) whole) (once : Once whole)
     (all : (k : ℕ) → Needed n k → Given k whole) (same : (s : Reading) → Kept n whole s → s.parts ≡ p) where
   read_on : (todo done : List Item) (s : Reading) (k : ℕ) → done ++ todo ≡ whole → Follows bytes s n done (written todo ++ (90 ∷ []))
       → length bytes < s.at + k → run k bytes s ≡ Ok p
@@ -66,7 +66,7 @@ module _ (bytes : List ℕ) (n : ℕ) (whole : List Item) (p : Parts) (right : A
       g = subst (λ x. Follows bytes s n done (letter_of i.part ∷ x)) (append_assoc i.operand (written todo) (90 ∷ [])) f
 
       r : Right n i
-      r = all_at (Right n) done i todo (subst (All (Right n)) (sym e) right)
+      r = all_at (Right n) done i todo (subst (AllByRecursion (Right n)) (sym e) right)
 
       new : New i.part done
       new = once_new done i todo (subst Once (sym e) once)

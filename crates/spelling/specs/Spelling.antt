@@ -1,6 +1,6 @@
 -- What the bytes of a draft spell: W and a width, every part that the width needs, once each and in any order, and Z.
 use Rattle.std.specs.Prelude.{◌≡◌, ℕ, zero, suc, ◌+◌, ◌^◌, ◌<◌, ◌≤◌, true, false, ◌⊎◌, List, [], ◌∷◌, ◌++◌, length, replicate, Ok, Err, Result, ◌≢◌, slice_index_or}
-use Rattle.std.specs.List.{AllByRecursion as All}
+use Rattle.std.specs.List.{AllByRecursion}
 use Rattle.bits.specs.Orders.{Sound}
 use Rattle.spelling.specs.declared.parts.Flow.TheVariants.{Flex, Cpa}
 use Rattle.spelling.specs.declared.parts.Parts.{Parts}
@@ -46,7 +46,7 @@ pub record Right (n : ℕ) (i : Item) : Type 0 where
 
 -- No part twice; F and P count as one.
 abbrev pub New : PartT → List Item → Type 0
-New p is = All (λ i. place_of i.part ≢ place_of p) is
+New p is = AllByRecursion (λ i. place_of i.part ≢ place_of p) is
 
 abbrev pub Once : List Item → Type 0
 Once [] = Unit {0}
@@ -77,10 +77,10 @@ pub record Spells (bytes : List ℕ) (p : Parts) : Type 0 where
   pub most : p.width ≤ 64
   pub items : List Item
   pub is : bytes ≡ 87 ∷ (p.width ∷ (written items ++ (90 ∷ [])))
-  pub right : All (Right p.width) items
+  pub right : AllByRecursion (Right p.width) items
   pub once : Once items
   pub all : (k : ℕ) → Needed p.width k → Given k items
-  pub has : All (Has p) items
+  pub has : AllByRecursion (Has p) items
   pub six : length p.orders ≡ 6
   pub unused : p.width ≤ 32 → (p.c1 ≡ 0) × (slice_index_or p.orders 4 [] ≡ replicate 64 0) × (slice_index_or p.orders 5 [] ≡ replicate 64 0)
 
@@ -100,7 +100,7 @@ pub record Before (bytes : List ℕ) (s : Reading) : Type 0 where
   pub items : List Item
   pub rest : List ℕ
   pub is : bytes ≡ 87 ∷ (n ∷ (written items ++ rest))
-  pub right : All (Right n) items
+  pub right : AllByRecursion (Right n) items
   pub once : Once items
   pub reading : s ≡ after_items (after_width n) items
 
