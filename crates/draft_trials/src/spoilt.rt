@@ -1,6 +1,6 @@
 // Spoilt drafts: every fault at its first and last place, and faults that could compete.
 use crate::sample::{Sample, faulty, spelt};
-use spelling::fault::{Layer, Reason};
+use spelling::fault::{Fault, Layer, Reason};
 use std::process::Abort;
 use std::test::Fail;
 
@@ -190,4 +190,28 @@ fn numbers_and_layers(rt: HostRuntime) {
         assert_eq!(rt; reason.layer(), layer);
         assert_eq!(rt; reason.place(), if number == 7 { Some(7) } else { None });
     }
+}
+
+// What a fault shows: its number, offset and layer, the place where there is one, and the words.
+#[test]
+fn shown_on_one_line(rt: HostRuntime) -> Result<(), Fail> {
+    for (reason, line) in [
+        (
+            Reason::NoCommand,
+            "2 offset 3 layer commands: this is no command letter",
+        ),
+        (
+            Reason::NoByte,
+            "1 offset 3 layer bytes: the draft ends too early",
+        ),
+        (
+            Reason::NoOrder(1),
+            "7 offset 3 layer orders place 1: the list is no order",
+        ),
+    ] {
+        let fault = Fault { reason, offset: 3 };
+        let shown = format!(in rt.alloc(); "{fault}")?;
+        assert_eq!(rt; shown.as_str(), line);
+    }
+    Ok(())
 }
