@@ -40,6 +40,7 @@ impl Boxes {
     }
 
     // Box i, the lowest first.
+    #[tactic(auto, using(crate::proofs::Rows::wide_at))]
     fn cell(&self, i: u32) -> Cell
         requires { i < self.now.count }
         ensures { result.width.bits ≡ slice_index (widths (layout self.now.size)) i }

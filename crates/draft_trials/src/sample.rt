@@ -7,14 +7,14 @@ use std::test::Fail;
 
 // The bytes of a draft, and where its last command stands.
 #[derive(Clone, Copy)]
-pub struct Sample {
+pub(crate) struct Sample {
     bytes: [u8; 512],
     len: usize,
-    pub last: usize,
+    pub(crate) last: usize,
 }
 
 impl Sample {
-    pub fn new() -> Sample {
+    pub(crate) fn new() -> Sample {
         Sample {
             bytes: [0; 512],
             len: 0,
@@ -22,28 +22,28 @@ impl Sample {
         }
     }
 
-    pub fn push(&mut self, byte: u8) {
+    pub(crate) fn push(&mut self, byte: u8) {
         if let Some(place) = self.bytes.get_mut(self.len) {
             *place = byte;
             self.len = self.len.saturating_add(1);
         }
     }
 
-    pub fn number(&mut self, number: u64) {
+    pub(crate) fn number(&mut self, number: u64) {
         for byte in number.to_le_bytes() {
             self.push(byte);
         }
     }
 
     // Each of the first `size` bits to itself, and zeros after them.
-    pub fn plain(&mut self, size: u8) {
+    pub(crate) fn plain(&mut self, size: u8) {
         for place in 0..64 {
             self.push(if place < size { place } else { 0 });
         }
     }
 
     // A letter and what belongs to it: the width, 0, or the plain list of the size.
-    pub fn command(&mut self, width: u8, letter: char) {
+    pub(crate) fn command(&mut self, width: u8, letter: char) {
         self.last = self.len;
         self.push(if letter.is_ascii() { letter as u8 } else { 0 });
         match letter {
@@ -55,28 +55,28 @@ impl Sample {
         }
     }
 
-    pub fn set(&mut self, at: usize, byte: u8) {
+    pub(crate) fn set(&mut self, at: usize, byte: u8) {
         if let Some(place) = self.bytes.get_mut(at) {
             *place = byte;
         }
     }
 
-    pub fn len(&self) -> usize {
+    pub(crate) fn len(&self) -> usize {
         self.len
     }
 
     // The first bytes, as many as asked for and there.
-    pub fn first(&self, len: usize) -> &[u8] {
+    pub(crate) fn first(&self, len: usize) -> &[u8] {
         self.bytes.get(..len.min(self.len)).unwrap_or(&[])
     }
 
-    pub fn all(&self) -> &[u8] {
+    pub(crate) fn all(&self) -> &[u8] {
         self.first(self.len)
     }
 }
 
 // The commands of these letters.
-pub fn spelt(width: u8, letters: &str) -> Sample {
+pub(crate) fn spelt(width: u8, letters: &str) -> Sample {
     let mut sample = Sample::new();
     for letter in letters.chars() {
         sample.command(width, letter);
@@ -84,14 +84,19 @@ pub fn spelt(width: u8, letters: &str) -> Sample {
     sample
 }
 
-pub fn accepted(bytes: &[u8]) -> Result<Draft, Fail> {
+pub(crate) fn accepted(bytes: &[u8]) -> Result<Draft, Fail> {
     match read(bytes) {
         Ok(draft) => Ok(draft),
         Err(fault) => Err(Fail::new(fault.offset)),
     }
 }
 
-pub fn faulty(rt: &impl Abort, bytes: &[u8], reason: Reason, offset: usize) -> Result<(), Fail> {
+pub(crate) fn faulty(
+    rt: &impl Abort,
+    bytes: &[u8],
+    reason: Reason,
+    offset: usize,
+) -> Result<(), Fail> {
     match read(bytes) {
         Ok(_) => Err(Fail::new("accepted")),
         Err(fault) => {
