@@ -1,10 +1,12 @@
 // Chain: one coding after the other. A number above one part's top passes that part unchanged.
 ghost use Rattle.std.specs.Prelude.{◌≡◌};
+ghost use Rattle.codings.specs.Asking.{coded};
 ghost use Rattle.meanings.specs.Layers.{chained};
 ghost use Rattle.meanings.proofs.Lawful.{chained_lawful};
 
 use crate::coding::Coding;
 use crate::refusal::AboveTop;
+use crate::turned::Turned;
 use meanings::chained_top;
 
 #[derive(Drop)]
@@ -31,16 +33,21 @@ impl<A: Coding, B: Coding> Coding for Chain<A, B> {
     }
 
     fn code(&self, x: u64) -> Result<u64, AboveTop> {
-        match self.first.code(x) {
-            Ok(y) => Ok(self.then.code(y).unwrap_or(y)),
-            Err(_) => self.then.code(x),
-        }
+        through(&self.first, &self.then, x)
     }
 
+    // A chain turned is the chain of its turned parts in reverse.
     fn back(&self, y: u64) -> Result<u64, AboveTop> {
-        match self.then.back(y) {
-            Ok(x) => Ok(self.first.back(x).unwrap_or(x)),
-            Err(_) => self.first.back(y),
-        }
+        through(&Turned::new(&self.then), &Turned::new(&self.first), y)
+    }
+}
+
+// The code of x in the chain of `near` and `far`.
+fn through<A: Coding, B: Coding>(near: &A, far: &B, x: u64) -> Result<u64, AboveTop>
+    ensures { result ≡ coded (chained (A.Coding.means near.now) (B.Coding.means far.now)) x }
+{
+    match near.code(x) {
+        Ok(met) => Ok(far.code(met).unwrap_or(met)),
+        Err(_) => far.code(x),
     }
 }

@@ -61,6 +61,7 @@ impl Coding for Plus {
 }
 
 // Whether x + k passes the top. The sum is not made for it, so nothing overflows at the largest top.
+#[tactic(auto, using(meanings::proofs::Lawful::plus_low, meanings::proofs::Lawful::plus_high))]
 fn wraps(top: u64, k: u64, x: u64) -> bool
     requires small { k ≤ top }
     requires within { x ≤ top }
