@@ -1,4 +1,8 @@
 // Why a layer cannot be laid on a pile.
+ghost use Rattle.std.specs.Prelude.{◌≡◌};
+ghost use Rattle.piles.specs.declared.error.PileError.TheVariants.{NoMemory};
+
+use std::alloc::AllocFailed;
 use std::error::Error;
 use std::fmt;
 
@@ -21,3 +25,11 @@ impl fmt::Display for PileError {
 }
 
 impl Error for PileError {}
+
+impl<T: Drop> From<AllocFailed<T>> for PileError {
+    ghost from_gives = { λ _ e. e ≡ NoMemory };
+
+    fn from(_failed: AllocFailed<T>) -> PileError {
+        PileError::NoMemory
+    }
+}

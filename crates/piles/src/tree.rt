@@ -42,35 +42,27 @@ impl Way {
 
 impl<C: Coding + Drop> Tree<C> {
     // This tree, then another.
+    #[tactic(auto, using(crate::proofs::Stacking::chain_made))]
     pub(crate) fn chain(self, heap: Global, then: Tree<C>) -> Result<Tree<C>, PileError>
         ensures { MatchResult result (λ p. ChainMade C.Coding.means C.Coding.lawful self then p) (λ e. e ≡ PileError.NoMemory) }
     {
-        let first = boxed(heap, self)?;
-        let then = boxed(heap, then)?;
-        Ok(Tree::Chain(first, then))
+        Ok(Tree::Chain(Box::new(heap, self)?, Box::new(heap, then)?))
     }
 
     // This tree the other way round.
+    #[tactic(auto, using(crate::proofs::Stacking::turned_made))]
     pub(crate) fn turned(self, heap: Global) -> Result<Tree<C>, PileError>
         ensures { MatchResult result (λ p. TurnedMade C.Coding.means C.Coding.lawful self p) (λ e. e ≡ PileError.NoMemory) }
     {
-        Ok(Tree::Turned(boxed(heap, self)?))
+        Ok(Tree::Turned(Box::new(heap, self)?))
     }
 
     // This tree on the numbers up to `to`.
+    #[tactic(auto, using(crate::proofs::Stacking::narrowed_made))]
     pub(crate) fn narrowed(self, heap: Global, to: u64) -> Result<Tree<C>, PileError>
         ensures { MatchResult result (λ p. NarrowedMade C.Coding.means C.Coding.lawful to self p) (λ e. e ≡ PileError.NoMemory) }
     {
-        Ok(Tree::Narrowed(boxed(heap, self)?, to))
-    }
-}
-
-fn boxed<C: Drop>(heap: Global, tree: Tree<C>) -> Result<Box<Tree<C>>, PileError>
-    ensures { MatchResult result (λ b. b.value ≡ tree) (λ e. e ≡ PileError.NoMemory) }
-{
-    match Box::new(heap, tree) {
-        Ok(tree) => Ok(tree),
-        Err(_) => Err(PileError::NoMemory),
+        Ok(Tree::Narrowed(Box::new(heap, self)?, to))
     }
 }
 
