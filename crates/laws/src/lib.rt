@@ -46,19 +46,6 @@ pub fn laws_at<A: Coding, B: Coding, C: Coding>(
     ensures any_three { AnyThree (A.Coding.means a.now) (B.Coding.means b.now) (C.Coding.means c.now) t u }
     ensures shown { Shown (A.Coding.means a.now) (B.Coding.means b.now) (C.Coding.means c.now) t u x result }
 {
-    both_sides(a, b, c, t, u, x)
-}
-
-fn both_sides<A: Coding, B: Coding, C: Coding>(
-    a: &A,
-    b: &B,
-    c: &C,
-    t: u64,
-    u: u64,
-    x: u64,
-) -> FiveLaws
-    ensures { Shown (A.Coding.means a.now) (B.Coding.means b.now) (C.Coding.means c.now) t u x result }
-{
     FiveLaws {
         regrouped: regrouped(a, b, c, x),
         turned_twice: turned_twice(a, x),

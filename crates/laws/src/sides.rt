@@ -1,14 +1,14 @@
 // The two sides of equations between codings, asked about one number.
 use codings::refusal::AboveTop;
 
-#[derive(Clone, Copy)]
+#[derive(Clone, Copy, PartialEq, Eq, Debug)]
 pub struct Sides {
     pub left: Result<u64, AboveTop>,
     pub right: Result<u64, AboveTop>,
 }
 
 // One pair of sides for each of the five laws.
-#[derive(Clone, Copy)]
+#[derive(Clone, Copy, PartialEq, Eq, Debug)]
 pub struct FiveLaws {
     // Chaining is associative.
     pub regrouped: Sides,

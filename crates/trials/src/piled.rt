@@ -34,11 +34,6 @@ fn too_high(rt: HostRuntime) -> Result<(), Fail> {
     }
     assert_eq!(rt; pile.height(), 1000);
     assert_eq!(rt; pile.code(2), Ok(7));
-    match pile.turned(heap) {
-        Ok(_) => Err(Fail::new("a pile of 1001 layers")),
-        Err(e) => {
-            assert_eq!(rt; e, PileError::TooHigh);
-            Ok(())
-        },
-    }
+    assert_eq!(rt; pile.turned(heap).err(), Some(PileError::TooHigh));
+    Ok(())
 }

@@ -1,6 +1,4 @@
-use mathlib.Core.Path.{◌≡◌, sym, ap, ◌∙◌}
-use borrow.Author.Rules.{rules}
-use Prim.Native.Nat.{min}
+use Rattle.std.proofs.Common.{◌≡◌, sym, ap, ◌∙◌, rules, min}
 use Rattle.meanings.specs.Layers.{narrowed}
 use Rattle.meanings.proofs.Laws.{laws}
 use Rattle.laws.specs.Shown.{sides}
