@@ -25,7 +25,8 @@ pub fn there_and_back<C: Coding>(coding: &C, x: u64) -> Result<u64, AboveTop>
     coding.back(coding.code(x)?)
 }
 
-// The code of the number whose code is y: y again, or the refusal where y is above the top.
+// The code of the number whose code is y: y again, or the refusal where y is above the top. By `there_and_back` of the
+// coding turned it would be no shorter.
 pub fn back_and_there<C: Coding>(coding: &C, y: u64) -> Result<u64, AboveTop>
     ensures { result ≡ coded (clear (C.Coding.means coding.now).top) y }
 {

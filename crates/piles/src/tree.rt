@@ -22,7 +22,8 @@ pub enum Tree<C> {
     Narrowed(Box<Tree<C>>, u64),
 }
 
-// Which way a number goes through a pile: from a number to its code, or from a code to its number.
+// Which way a number goes through a pile: from a number to its code, or from a code to its number. It is matched on, since
+// a function for each way would have the same arms twice.
 #[derive(Clone, Copy)]
 pub enum Way {
     There,
@@ -103,6 +104,8 @@ impl<C: Coding> Tree<C> {
                 if x > top {
                     return Err(AboveTop);
                 }
+                // The walk of codings' `Narrowed` once more: a recursion goes through no trait's method, and a closure names
+                // no coding whose orbit ends the walk.
                 let mut y = below.sent(way, x)?;
                 while y > top {
                     y = below.sent(way, y)?;
