@@ -1,12 +1,14 @@
 -- Where an order puts each bit, that moving and gathering undo each other, and which lists of places are orders.
-use Rattle.std.proofs.Common.{◌≡◌, ℕ, zero, suc, ◌+◌, ◌*◌, ◌/◌, ◌%◌, ◌^◌, ◌<◌, ◌≤◌, true, false, not, ◌||◌, eqb, ltb, ◌⊎◌, List, [], ◌∷◌, length, get_or, take, drop, sym, ap, ◌∙◌, subst, inl, inr, mod-lt, mul_assoc, mul_comm, add-mul, pow-suc, zero-mul, mul-one, div-one, arith, pow_pos, pow_mono, pow-add, shr-shr}
+use Rattle.std.proofs.Common.{◌≡◌, ℕ, zero, suc, ◌+◌, ◌*◌, ◌/◌, ◌%◌, ◌^◌, ◌<◌, ◌≤◌, false, not, eqb, ltb, ◌⊎◌, List, [], ◌∷◌, length, get_or, take, sum, map, sym, refl, ap, ◌∙◌, subst, inl, inr, mod-lt, mul_assoc, mul_comm, add-mul, pow-suc, zero-mul, mul-one, div-one, arith, pow_pos, pow_mono, pow-add, shr-shr}
+use Rattle.std.specs.List.{enumerate_from}
 use Rattle.std.proofs.lemmas.Nat.{shl_whole}
-use Rattle.std.proofs.lemmas.List.{get_or_default, get_or_past, get_or-take, length-take-le, drop_more, drop_all}
-use Rattle.std.proofs.lemmas.Bool.{cases_eq, eq-eqb, ne_eqb, lt-ltb, ltb-true, not-false, or_parts, or_left, cond-true, true≢false}
+use Rattle.std.proofs.lemmas.List.{get_or_default, get_or_past, get_or-take, length-take-le}
+use Rattle.std.proofs.lemmas.List.FromFn.{get_or-enumerate_from, length-enumerate_from}
+use Rattle.std.proofs.lemmas.List.Sums.{sum_by-cons}
+use Rattle.std.proofs.lemmas.Bool.{cases_eq, eq-eqb, lt-ltb, ltb-true, not-false, or_parts, cond-true, true≢false}
 use Rattle.meanings.proofs.Pigeonhole.{pigeonhole, Meet}
 use Rattle.bits.specs.Bits.{bit}
 use Rattle.bits.specs.Orders.{IsOrder, moved, gathered, Undoes, Applied, Undone, among, Sound}
-use Rattle.bits.specs.Steps.{left_to_move, left_to_gather, Sent, Fetched}
 use Rattle.bits.proofs.Bits.{bit_below, bit_first, bit_half, bit_above, same_bits, put_there, put_other, put_below}
 
 -- entries at different places differ
@@ -172,78 +174,63 @@ sound_order n list long sound =
     both : (i : ℕ) → i < n → (not (ltb (get_or list i 0) n) ≡ false) × (among (get_or list i 0) (take i list) ≡ false)
     both i h = or_parts _ _ (sym (cond-true (ltb i n) _ _ (lt-ltb i n h)) ∙ sound i (omega arith))
 
--- The turns of the loops that move and gather.
-module _ (R : List ℕ) (x i : ℕ) where
-  pub move_none : left_to_move R x 0 ≡ moved R x
-  unfolding left_to_move
-  move_none = ap (moved R) (div-one x)
+-- What the bits add one by one, from bit i on: each is shifted inside 64 bits, and their sum is what all of them make.
+abbrev pub sent : ℕ → ℕ × ℕ → ℕ
+sent x p = bit x p.0 * 2 ^ p.1 % 2 ^ 64
 
-  pub move_more : i < length R → bit x i * 2 ^ get_or R i 0 + left_to_move R x (i + 1) ≡ left_to_move R x i
-  unfolding left_to_move moved
-  move_more h =
-      ap (λ z. bit x i * 2 ^ get_or R i 0 + moved (drop (i + 1) R) z) (sym (shr-shr x i 1))
-      ∙ sym (ap (λ rs. moved rs (x / 2 ^ i)) (drop_more R i 0 h))
+abbrev pub fetched : ℕ → ℕ × ℕ → ℕ
+fetched y p = bit y p.1 * 2 ^ p.0 % 2 ^ 64
 
-  pub move_all : length R ≤ i → left_to_move R x i ≡ 0
-  unfolding left_to_move moved
-  move_all h = ap (λ rs. moved rs (x / 2 ^ i)) (drop_all i R h)
+sum_cons : (x : ℕ) (xs : List ℕ) → sum (x ∷ xs) ≡ x + sum xs
+sum_cons x xs = sum_by-cons (λ z. z) x xs
 
-  pub gather_none : left_to_gather R x 0 ≡ gathered R x
-  unfolding left_to_gather
-  gather_none = mul-one (gathered R x)
+sent_from : (R : List ℕ) (x i : ℕ) → ((k : ℕ) → k < length R → get_or R k 0 < 64) → sum (map (sent x) (enumerate_from i R)) ≡ moved R (x / 2 ^ i)
+unfolding moved
+sent_from [] x i below = refl
+sent_from (r ∷ rs) x i below =
+    let digit = bit_below x i in
+    let here : bit x i * 2 ^ r % 2 ^ 64 ≡ bit x i * 2 ^ r = shl_whole (bit x i) 1 r 64 (omega arith) (let b : r < 64 = below 0 (omega arith) in omega arith) in
+    sum_cons (bit x i * 2 ^ r % 2 ^ 64) (map (sent x) (enumerate_from (i + 1) rs))
+    ∙ ap (λ z. z + sum (map (sent x) (enumerate_from (i + 1) rs))) here
+    ∙ ap (λ z. bit x i * 2 ^ r + z) (sent_from rs x (i + 1) (λ k h. below (suc k) (omega arith)) ∙ ap (moved rs) (sym (shr-shr x i 1)))
 
-  pub gather_more : i < length R → bit x (get_or R i 0) * 2 ^ i + left_to_gather R x (i + 1) ≡ left_to_gather R x i
-  unfolding left_to_gather gathered
-  gather_more h =
-      let g = gathered (drop (i + 1) R) x in
-      let p : 2 ^ (i + 1) ≡ 2 * 2 ^ i = pow-add 2 i 1 ∙ mul_comm (2 ^ i) 2 in
-      ap (λ z. bit x (get_or R i 0) * 2 ^ i + z) (ap (λ z. g * z) p ∙ sym (mul_assoc g 2 (2 ^ i)) ∙ ap (λ z. z * 2 ^ i) (mul_comm g 2))
-      ∙ sym (add-mul (bit x (get_or R i 0)) (2 * g) (2 ^ i))
-      ∙ sym (ap (λ rs. gathered rs x * 2 ^ i) (drop_more R i 0 h))
+fetched_from : (R : List ℕ) (y i : ℕ) → i + length R ≤ 64 → sum (map (fetched y) (enumerate_from i R)) ≡ gathered R y * 2 ^ i
+unfolding gathered
+fetched_from [] y i fits = sym (zero-mul (2 ^ i))
+fetched_from (r ∷ rs) y i fits =
+    let g = gathered rs y in
+    let digit = bit_below y r in
+    let here : bit y r * 2 ^ i % 2 ^ 64 ≡ bit y r * 2 ^ i = shl_whole (bit y r) 1 i 64 (omega arith) (omega arith) in
+    let p : 2 ^ (i + 1) ≡ 2 * 2 ^ i = pow-add 2 i 1 ∙ mul_comm (2 ^ i) 2 in
+    sum_cons (bit y r * 2 ^ i % 2 ^ 64) (map (fetched y) (enumerate_from (i + 1) rs))
+    ∙ ap (λ z. z + sum (map (fetched y) (enumerate_from (i + 1) rs))) here
+    ∙ ap (λ z. bit y r * 2 ^ i + z) (fetched_from rs y (i + 1) (omega arith) ∙ ap (λ z. g * z) p ∙ sym (mul_assoc g 2 (2 ^ i)) ∙ ap (λ z. z * 2 ^ i) (mul_comm g 2))
+    ∙ sym (add-mul (bit y r) (2 * g) (2 ^ i))
 
-  pub gather_all : length R ≤ i → left_to_gather R x i ≡ 0
-  unfolding left_to_gather gathered
-  gather_all h = ap (λ rs. gathered rs x * 2 ^ i) (drop_all i R h) ∙ zero-mul (2 ^ i)
-
--- What one bit adds, where it is shifted inside m bits.
-module _ (m n : ℕ) (R : List ℕ) (o : IsOrder n R) (fits : n ≤ m) (x i : ℕ) (here : i < n) where
-  whole : 2 ^ n ≤ 2 ^ m
+module _ (n : ℕ) (R : List ℕ) (o : IsOrder n R) (fits : n ≤ 64) where
+  whole : 2 ^ n ≤ 2 ^ 64
   whole = pow_mono fits
 
-  pub sent : (b p : ℕ) → b ≡ bit x i → p ≡ get_or R i 0 → Sent m R x i (b * 2 ^ p % 2 ^ m)
-  sent b p eb ep =
-      let s = o.size in
-      let below = o.below i here in
-      let digit = bit_below x i in
-      let all : b * 2 ^ p % 2 ^ m ≡ bit x i * 2 ^ get_or R i 0 = shl_whole b 1 p m (omega arith) (omega arith) ∙ ap (λ d. d * 2 ^ p) eb ∙ ap (λ q. bit x i * 2 ^ q) ep in
-      record {
-        step = rw all (move_more R x i (omega arith));
-        small = let all_below = order_moved_below n R o x in let w = whole in omega arith;
-      }
+  -- what the chain asks of the bit and the place at k
+  pub shifts : (k : ℕ) (p : ℕ × ℕ) → k < length (enumerate_from 0 R) → p ≡ get_or (enumerate_from 0 R) k p → (p.0 < 64) × (p.1 < 64)
+  shifts k p h e =
+      let size = o.size in
+      let long = length-enumerate_from 0 R in
+      let here : k < length R = omega arith in
+      let below = o.below k (omega arith) in
+      let at = e ∙ get_or-enumerate_from 0 R k p here in
+      let bit : p.0 ≡ 0 + k = ap (λ z. z.0) at in
+      let place : p.1 ≡ get_or R k 0 = ap (λ z. z.1) at ∙ get_or_default R k p.1 0 here in
+      (omega arith, omega arith)
 
-  pub fetched : (b : ℕ) → b ≡ bit x (get_or R i 0) → Fetched m R x i (b * 2 ^ i % 2 ^ m)
-  fetched b eb =
-      let s = o.size in
-      let digit = bit_below x (get_or R i 0) in
-      let all : b * 2 ^ i % 2 ^ m ≡ bit x (get_or R i 0) * 2 ^ i = shl_whole b 1 i m (omega arith) (omega arith) ∙ ap (λ d. d * 2 ^ i) eb in
-      record {
-        step = rw all (gather_more R x i (omega arith));
-        small = let all_below = order_gathered_below n R o x in let w = whole in omega arith;
-      }
+  pub sent_sum : (x : ℕ) → sum (map (sent x) (enumerate_from 0 R)) ≡ moved R x
+  sent_sum x = sent_from R x 0 (λ k h. let s = o.size in let b = o.below k (omega arith) in omega arith) ∙ ap (moved R) (div-one x)
 
--- The turns of the loop that looks for v among the first n of a list.
-module _ (v n : ℕ) (list : List ℕ) (i : ℕ) (long : n ≤ length list) (here : i < n) where
-  next : among v (drop i (take n list)) ≡ (eqb (get_or list i 0) v || among v (drop (i + 1) (take n list)))
-  next =
-      let s = length-take-le n list long in
-      ap (among v) (drop_more (take n list) i 0 (omega arith))
-      ∙ ap (λ x. eqb x v || among v (drop (i + 1) (take n list))) (get_or-take n list i 0 here)
+  pub sent_fits : (x : ℕ) → sum (map (sent x) (enumerate_from 0 R)) < 2 ^ 64
+  sent_fits x = rw (sent_sum x) (let b = order_moved_below n R o x in let w = whole in omega arith)
 
-  pub among_found : get_or list i 0 ≡ v → among v (drop i (take n list)) ≡ true
-  among_found e = next ∙ or_left (eqb (get_or list i 0) v) (among v (drop (i + 1) (take n list))) (eq-eqb (get_or list i 0) v e)
+  pub fetched_sum : (y : ℕ) → sum (map (fetched y) (enumerate_from 0 R)) ≡ gathered R y
+  fetched_sum y = fetched_from R y 0 (let s = o.size in omega arith) ∙ mul-one (gathered R y)
 
-  pub among_more : (get_or list i 0 ≡ v → ⊥) → among v (drop i (take n list)) ≡ among v (drop (i + 1) (take n list))
-  among_more ne = next ∙ ap (λ b. b || among v (drop (i + 1) (take n list))) (ne_eqb (get_or list i 0) v ne)
-
-pub among_all : (v n : ℕ) (list : List ℕ) (i : ℕ) → n ≤ length list → n ≤ i → among v (drop i (take n list)) ≡ false
-among_all v n list i long h = let s = length-take-le n list long in ap (among v) (drop_all i (take n list) (omega arith))
+  pub fetched_fits : (y : ℕ) → sum (map (fetched y) (enumerate_from 0 R)) < 2 ^ 64
+  fetched_fits y = rw (fetched_sum y) (let b = order_gathered_below n R o y in let w = whole in omega arith)

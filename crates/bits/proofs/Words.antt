@@ -6,8 +6,7 @@ use lib.Bits.{bit_or, or_shifted}
 use lib.Pow.{ones_split, ones_lt, mod-mod-pow, high, mod-pow-add, shl-shr}
 use Rattle.std.proofs.lemmas.Bool.{cases_lt}
 use Rattle.bits.specs.Bits.{bit}
-use Rattle.bits.specs.Steps.{Turns}
-use Rattle.bits.specs.Words.{sum, less, Cancels, turned, turned_left, turned_right, TurnsBack, TurnedLeft, TurnedRight}
+use Rattle.bits.specs.Words.{sum, less, Cancels, Added, Taken, turned, turned_left, turned_right, TurnsBack, TurnedLeft, TurnedRight}
 use Rattle.bits.proofs.Bits.{bit_mod, bit_low, bit_high, bit_shr, same_bits}
 
 -- the lowest n of m bits set
@@ -57,6 +56,13 @@ less_wrapped n m a b h small =
     ∙ sym (add_take (2 ^ n) d b (pow_pos n))
     ∙ ap (λ y. (y + (2 ^ n - b % 2 ^ n)) % 2 ^ n) same
     ∙ mod-add-mod a (2 ^ n) (2 ^ n - b % 2 ^ n)
+
+-- what the code cuts from a sum or a difference of 64 bits
+pub added : (n a b r : ℕ) → n ≤ 64 → r ≡ (a + b) % 2 ^ 64 % 2 ^ n → Added n a b r
+added n a b r fits e = record { value = e ∙ sum_wrapped n 64 a b fits; cancels = cancels n a b }
+
+pub taken : (n a b r : ℕ) → n ≤ 64 → b < 2 ^ 64 → r ≡ (a + (2 ^ 64 - b)) % 2 ^ 64 % 2 ^ n → Taken n a b r
+taken n a b r fits small e = record { value = e ∙ less_wrapped n 64 a b fits (omega arith); cancels = cancels n a b }
 
 -- a shift inside n bits: what passes the end is lost
 pub shl_mod : (n j y : ℕ) → j ≤ n → y * 2 ^ j % 2 ^ n ≡ y % 2 ^ (n - j) * 2 ^ j
@@ -152,13 +158,10 @@ turns_back n k x some =
           ∙ sym (bit_mod n x i h));
     }
 
--- a turn to the left by k is one to the right by whatever k lacks of a full turn
-pub turned_either : (n k x r : ℕ) → 0 < n → r ≡ turned_left n k x → Turns n k x r
-unfolding turned_right
-turned_either n k x r some e = record { left = left; right = λ back lacks. right back (e ∙ ap (λ i. turned_left n i x) lacks) }
-  where
-    left : TurnedLeft n k x r
-    left = record { value = e; small = rw e (turned_left_below n k x some); bits = λ i h. rw e (turned_left_bit n k x some i h); back = turns_back n k x some }
+pub turns_left : (n k x r : ℕ) → 1 ≤ n → r ≡ turned_left n k x → TurnedLeft n k x r
+turns_left n k x r some e = record { value = e; small = rw e (turned_left_below n k x some); bits = λ i h. rw e (turned_left_bit n k x some i h); back = turns_back n k x some }
 
-    right : (k : ℕ) → r ≡ turned_right n k x → TurnedRight n k x r
-    right k e = record { value = e; small = rw e (turned_right_below n k x some); bits = λ i h. rw e (turned_right_bit n k x some i h); back = turns_back n k x some }
+-- by what k lacks of a full turn, to the left
+pub turns_right : (n k x r : ℕ) → 1 ≤ n → r ≡ turned_left n (n - k % n) x → TurnedRight n k x r
+unfolding turned_right
+turns_right n k x r some e = record { value = e; small = rw e (turned_right_below n k x some); bits = λ i h. rw e (turned_right_bit n k x some i h); back = turns_back n k x some }

@@ -1,4 +1,3 @@
 pub mod Bits
 pub mod Words
 pub mod Orders
-pub mod Steps

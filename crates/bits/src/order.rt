@@ -1,8 +1,7 @@
 // Orders of the bits of a number.
-ghost use Rattle.std.specs.Prelude.{◌≡◌, ◌<◌, length, take, MatchOption, MatchResult, slice_index};
+ghost use Rattle.std.specs.Prelude.{◌≡◌, ◌*◌, ◌%◌, ◌^◌, ◌<◌, length, take, MatchOption, MatchResult, slice_index};
 ghost use Rattle.bits.specs.Bits.{bit};
 ghost use Rattle.bits.specs.Orders.{IsOrder, Applied, Undone, FirstFault, Sound, among, fault_at};
-ghost use Rattle.bits.specs.Steps.{Sent, Fetched};
 
 use crate::width::Width;
 
@@ -27,7 +26,7 @@ impl Order {
     {
         match first_fault(size, &places) {
             Some(place) => Err(NotAnOrder { place }),
-            None => Ok(sound(size, places)),
+            None => Ok(Order { size, places }),
         }
     }
 
@@ -47,76 +46,50 @@ impl Order {
     pub fn apply(&self, x: u64) -> u64
         ensures { Applied self.now.size.bits (take self.now.size.bits self.now.places) x result }
     {
-        let mut out = 0;
-        for i in 0..self.size.bits() as usize {
-            out += self.sent(x, i);
-        }
-        out
+        self.used()
+            .iter()
+            .enumerate()
+            .map(|(i, place)| moved_bit(x, i, *place as usize))
+            .sum()
     }
 
     // y with each bit fetched back from its place.
     pub fn undo(&self, y: u64) -> u64
         ensures { Undone self.now.size.bits (take self.now.size.bits self.now.places) y result }
     {
-        let mut out = 0;
-        for i in 0..self.size.bits() as usize {
-            out += self.fetched(y, i);
-        }
-        out
+        self.used()
+            .iter()
+            .enumerate()
+            .map(|(i, place)| moved_bit(y, *place as usize, i))
+            .sum()
     }
 
-    // Bit i of x, at its place.
-    fn sent(&self, x: u64, i: usize) -> u64
-        requires { i < self.now.size.bits }
-        ensures { Sent 64 (take self.now.size.bits self.now.places) x i result }
+    // The places that count.
+    #[tactic(auto, using(crate::proofs::Orders::sound_order))]
+    fn used(&self) -> &[u8]
+        ensures is { result.now ≡ take self.now.size.bits self.now.places }
+        ensures order { IsOrder self.now.size.bits result.now }
     {
-        bit_of(x, i) << self.place(i)
-    }
-
-    // The bit of y that stands at the place of bit i, at i again.
-    fn fetched(&self, y: u64, i: usize) -> u64
-        requires { i < self.now.size.bits }
-        ensures { Fetched 64 (take self.now.size.bits self.now.places) y i result }
-    {
-        bit_of(y, self.place(i)) << i
-    }
-
-    // Where bit i moves.
-    fn place(&self, i: usize) -> usize
-        requires { i < self.now.size.bits }
-        ensures value { result ≡ slice_index (take self.now.size.bits self.now.places) i }
-        ensures small { result < 64 }
-    {
-        self.places[i] as usize
+        let Order { size, places } = self;
+        &places[..size.bits() as usize]
     }
 }
 
-// Bit i of x, 0 or 1.
-fn bit_of(x: u64, i: usize) -> u64
-    requires { i < 64 }
-    ensures { result ≡ bit x i }
+// Bit `from` of x, moved to `to`.
+#[tactic(auto, using(std::proofs::lemmas::Nat::and_mask))]
+fn moved_bit(x: u64, from: usize, to: usize) -> u64
+    requires from_within { from < 64 }
+    requires to_within { to < 64 }
+    ensures { result ≡ bit x from * 2 ^ to % 2 ^ 64 }
 {
-    (x >> i) & 1
-}
-
-// The order of these places, which have no fault.
-fn sound(size: Width, places: [u8; 64]) -> Order
-    requires { Sound size.bits places }
-    ensures { (result.size ≡ size) × (result.places ≡ places) × IsOrder size.bits (take size.bits places) }
-{
-    Order { size, places }
+    ((x >> from) & 1) << to
 }
 
 // The first place at fault.
 fn first_fault(size: Width, places: &[u8; 64]) -> Option<usize>
     ensures { MatchOption result (Sound size.bits places.now) (λ p. FirstFault size.bits places.now p) }
 {
-    for i in 0..64 {
-        if is_fault(size, places, i) {
-            return Some(i);
-        }
-    }
-    None
+    (0..places.len()).find(|i| is_fault(size, places, *i))
 }
 
 // Whether the place at i is at fault.
@@ -126,21 +99,8 @@ fn is_fault(size: Width, places: &[u8; 64], i: usize) -> bool
 {
     let place = places[i];
     if i < size.bits() as usize {
-        place as u32 >= size.bits() || stands_before(places, i)
+        place as u32 >= size.bits() || places[..i].contains(&place)
     } else {
         place != 0
     }
-}
-
-// Whether the place at i stands at an earlier i too.
-fn stands_before(places: &[u8; 64], i: usize) -> bool
-    requires { i < 64 }
-    ensures { result ≡ among (slice_index places.now i) (take i places.now) }
-{
-    for earlier in 0..i {
-        if places[earlier] == places[i] {
-            return true;
-        }
-    }
-    false
 }

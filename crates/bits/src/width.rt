@@ -1,7 +1,6 @@
 // A number of bits, and the arithmetic of the numbers of so many bits.
 ghost use Rattle.std.specs.Prelude.{◌≡◌, ◌-◌, ◌%◌, ◌^◌, ◌<◌, ◌≤◌, ◌⊎◌, MatchOption};
-ghost use Rattle.bits.specs.Steps.{Lowest, Turns};
-ghost use Rattle.bits.specs.Words.{Added, Taken, TurnedLeft, TurnedRight};
+ghost use Rattle.bits.specs.Words.{Added, Taken, turned_left, TurnedLeft, TurnedRight};
 
 // From 1 to 64 bits.
 #[derive(Clone, Copy)]
@@ -30,34 +29,39 @@ impl Width {
     }
 
     // The largest number of so many bits: all of them set.
+    #[tactic(auto, using(crate::proofs::Words::ones_shr))]
     pub fn mask(self) -> u64
         ensures { result ≡ 2 ^ self.bits - 1 }
     {
-        ones(self.bits)
+        u64::MAX >> (64 - self.bits)
     }
 
     // The lowest bits of x, as many as the width has.
+    #[tactic(auto, using(std::proofs::lemmas::Nat::and_mask))]
     pub fn cut(self, x: u64) -> u64
         ensures { result ≡ x % 2 ^ self.bits }
     {
-        self.low(x)
+        x & self.mask()
     }
 
     // a + b, wrapped.
+    #[tactic(auto, using(crate::proofs::Words::added))]
     pub fn add(self, a: u64, b: u64) -> u64
         ensures { Added self.bits a b result }
     {
-        self.low(a.wrapping_add(b))
+        self.cut(a.wrapping_add(b))
     }
 
     // a - b, wrapped.
+    #[tactic(auto, using(crate::proofs::Words::taken))]
     pub fn sub(self, a: u64, b: u64) -> u64
         ensures { Taken self.bits a b result }
     {
-        self.low(a.wrapping_sub(b))
+        self.cut(a.wrapping_sub(b))
     }
 
     // The bits of x moved up by k places; those that pass the end come round.
+    #[tactic(auto, using(crate::proofs::Words::turns_left))]
     pub fn rotate_left(self, x: u64, k: u32) -> u64
         ensures { TurnedLeft self.bits k x result }
     {
@@ -65,6 +69,7 @@ impl Width {
     }
 
     // The bits of x moved down by k places; those that pass the end come round.
+    #[tactic(auto, using(crate::proofs::Words::turns_right))]
     pub fn rotate_right(self, x: u64, k: u32) -> u64
         ensures { TurnedRight self.bits k x result }
     {
@@ -73,29 +78,13 @@ impl Width {
 
     // What both rotations come to. A shift by all 64 bits is not allowed, so a full turn is a case of its own.
     fn turn(self, x: u64, k: u32) -> u64
-        ensures { Turns self.bits k x result }
+        ensures { result ≡ turned_left self.bits k x }
     {
-        let y = self.low(x);
+        let y = self.cut(x);
         let j = k % self.bits;
         if j == 0 {
             return y;
         }
-        self.low(y << j) | (y >> (self.bits - j))
+        self.cut(y << j) | (y >> (self.bits - j))
     }
-
-    // The lowest bits of x.
-    fn low(self, x: u64) -> u64
-        ensures { Lowest 64 self.bits x result }
-    {
-        x & self.mask()
-    }
-}
-
-// The number with the lowest n bits set.
-fn ones(n: u32) -> u64
-    requires some { 1 ≤ n }
-    requires fits { n ≤ 64 }
-    ensures { result ≡ 2 ^ n - 1 }
-{
-    u64::MAX >> (64 - n)
 }
