@@ -3,12 +3,8 @@ use Rattle.std.proofs.Common.{◌≡◌, ℕ, ◌+◌, ◌*◌, ◌/◌, ◌%◌
 use Rattle.std.specs.List.{AllByRecursion}
 use Rattle.std.proofs.lemmas.Nat.{pow_pos, pow-add, mod_below, shr_below, shr_high, mod_low, shr_split, mul-add-lt}
 use Rattle.field.specs.Widths.{low_part}
-use Rattle.boxes.specs.Boxes.{Undone, layer, bits_of, flex_box, cpa_box, cpa_box_back, cut}
-use Rattle.boxes.proofs.Boxes.{flex_undone, cpa_undone}
-
--- boxes of all widths with a field, at all places
-abbrev pub Boxed : (ℕ → ℕ → ℕ → ℕ) → (ℕ → ℕ → ℕ → ℕ) → Type 0
-Boxed f g = (p m : ℕ) → 0 < low_part m → Undone m (f p m) (g p m)
+use Rattle.boxes.specs.Boxes.{Undone, Boxed, layer, bits_of}
+use Rattle.boxes.specs.Kinds.{turned_boxed}
 
 -- the upper boxes and the lowest
 upper : (m k a b : ℕ) → a < 2 ^ m → b < 2 ^ k → b * 2 ^ m + a < 2 ^ (m + k)
@@ -41,22 +37,11 @@ layer_undoes f g boxed p (m ∷ ms) fields x h =
     ∙ ap (λ z. x / 2 ^ m * 2 ^ m + z) ((boxed p m fields.0).undoes (x % 2 ^ m) small)
     ∙ shr_split x m
 
-turned_boxes : (f g : ℕ → ℕ → ℕ → ℕ) → Boxed f g → Boxed g f
-turned_boxes f g boxed p m some =
-    let u = boxed p m some in
-    record { within = u.lands; lands = u.within; undoes = u.redoes; redoes = u.undoes }
-
 pub layer_undone : (f g : ℕ → ℕ → ℕ → ℕ) → Boxed f g → (ms : List ℕ) → AllByRecursion (λ m. 0 < low_part m) ms → Undone (bits_of ms) (layer f 0 ms) (layer g 0 ms)
 layer_undone f g boxed ms fields =
     record {
       within = layer_lt f g boxed 0 ms fields;
-      lands = layer_lt g f (turned_boxes f g boxed) 0 ms fields;
+      lands = layer_lt g f (turned_boxed f g boxed) 0 ms fields;
       undoes = layer_undoes f g boxed 0 ms fields;
-      redoes = layer_undoes g f (turned_boxes f g boxed) 0 ms fields;
+      redoes = layer_undoes g f (turned_boxed f g boxed) 0 ms fields;
     }
-
-pub flex_boxed : Boxed flex_box flex_box
-flex_boxed p m some = flex_undone m some
-
-pub cpa_boxed : (r0 r1 : ℕ) → Boxed (cpa_box r0 r1) (cpa_box_back r0 r1)
-cpa_boxed r0 r1 p m some = cpa_undone m (cut r0 p m) (cut r1 p m) some (mod_below (r0 / 2 ^ p) (2 ^ m) (pow_pos m))

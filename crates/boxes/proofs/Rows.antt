@@ -9,7 +9,8 @@ use Rattle.std.proofs.lemmas.List.{drop_more, drop_all}
 use Rattle.std.specs.List.{AllByRecursion}
 use Rattle.field.specs.Widths.{low_part}
 use Rattle.boxes.specs.Boxes.{Undone, layer, bits_of, flex_box, cpa_box, cpa_box_back, Rows}
-use Rattle.boxes.proofs.Layers.{layer_undone, flex_boxed, cpa_boxed}
+use Rattle.boxes.specs.Kinds.{flex_boxed, cpa_boxed}
+use Rattle.boxes.proofs.Layers.{layer_undone}
 
 pub record Rowed (f : ℕ → ℕ → ℕ → ℕ) (n : ℕ) (ms : List ℕ) (x i place left out : ℕ) : Type 0 where
   pub at : place + bits_of (drop i ms) ≡ n

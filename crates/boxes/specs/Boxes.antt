@@ -48,6 +48,10 @@ cpa_box r0 r1 p m x = cpa m (cut r0 p m) (cut r1 p m) x
 abbrev pub cpa_box_back : ℕ → ℕ → ℕ → ℕ → ℕ → ℕ
 cpa_box_back r0 r1 p m y = cpa_back m (cut r0 p m) (cut r1 p m) y
 
+-- Two kinds of box that undo each other, wherever they stand and whatever width with a field they have.
+abbrev pub Boxed : (ℕ → ℕ → ℕ → ℕ) → (ℕ → ℕ → ℕ → ℕ) → Type 0
+Boxed f g = (p m : ℕ) → 0 < low_part m → Undone m (f p m) (g p m)
+
 -- The boxes of widths ms make up n bits, and a row of them is undone by a row of them: Flex boxes by themselves, CPA boxes
 -- with any random parts by their ways back.
 pub record Rows (n : ℕ) (ms : List ℕ) : Type 0 where

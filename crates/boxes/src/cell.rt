@@ -20,10 +20,8 @@ impl Cell {
         ensures { MatchOption result (low_part width ≡ 0) (λ c. (c.width.bits ≡ width) × (0 < low_part width)) }
     {
         let field = Field::of_width(width)?;
-        Some(Cell {
-            field,
-            width: width_of(field)?,
-        })
+        let width = Width::new(width)?;
+        Some(Cell { field, width })
     }
 
     pub fn width(self) -> Width
@@ -37,21 +35,6 @@ impl Cell {
         ensures is { result ≡ flex self.width.bits (x % 2 ^ self.width.bits) }
         ensures small { result < 2 ^ self.width.bits }
     {
-        inverse_of(self.field, x)
+        self.field.inverse(x)
     }
-}
-
-// The inverse in a field, by its width alone.
-fn inverse_of(field: Field, x: u64) -> u64
-    ensures is { result ≡ flex field.width (x % 2 ^ field.width) }
-    ensures small { result < 2 ^ field.width }
-{
-    field.inverse(x)
-}
-
-// The width of a field. Every field has one from 1 to 64, so that there always is one.
-fn width_of(field: Field) -> Option<Width>
-    ensures { MatchOption result ⊥ (λ w. field.width ≡ w.bits) }
-{
-    Width::new(field.width())
 }

@@ -1,18 +1,30 @@
 // What the two flows do in a box.
-ghost use Rattle.std.specs.Prelude.{◌≡◌, ℕ, ◌%◌, ◌^◌, ◌<◌};
-ghost use Rattle.boxes.specs.Boxes.{flex_box, cpa_box, cpa_box_back, cpa, cpa_back};
+ghost use Rattle.std.specs.Prelude.{◌≡◌, ℕ, ◌/◌, ◌%◌, ◌^◌, ◌<◌};
+ghost use Rattle.boxes.specs.Boxes.{flex_box, cpa_box, cpa_box_back, Boxed};
+ghost use Rattle.boxes.specs.Kinds.{flex_boxed, cpa_boxed, turned_boxed};
 
 use crate::cell::Cell;
 
-// A kind of box: what it does to a value, by the place of its lowest bit and its width.
+// A kind of box: what it does to a value, by the place of its lowest bit and its width, and its way back.
 pub trait BoxKind {
     ghost does: { Self → ℕ → ℕ → ℕ → ℕ };
+
+    ghost undoes: { Self → ℕ → ℕ → ℕ → ℕ };
 
     // The value in the lowest bits of x, sent through the box.
     fn send(&self, cell: Cell, place: u32, x: u64) -> u64
         requires near { place < 64 }
         ensures is { result ≡ does self.now place cell.width.bits (x % 2 ^ cell.width.bits) }
         ensures small { result < 2 ^ cell.width.bits };
+
+    // The value in the lowest bits of y, sent back through the box.
+    fn back(&self, cell: Cell, place: u32, y: u64) -> u64
+        requires near { place < 64 }
+        ensures is { result ≡ undoes self.now place cell.width.bits (y % 2 ^ cell.width.bits) }
+        ensures small { result < 2 ^ cell.width.bits };
+
+    // Both ways keep the values of a box, and undo each other on them.
+    ghost boxed: { (s : Self) → Boxed (does s) (undoes s) };
 }
 
 // A Flex box, which is its own way back.
@@ -22,8 +34,16 @@ pub struct Flex;
 impl BoxKind for Flex {
     ghost does = { λ s. flex_box };
 
+    ghost undoes = { λ s. flex_box };
+
+    ghost boxed = { λ s. flex_boxed };
+
     fn send(&self, cell: Cell, place: u32, x: u64) -> u64 {
         cell.invert(x)
+    }
+
+    fn back(&self, cell: Cell, place: u32, y: u64) -> u64 {
+        self.send(cell, place, y)
     }
 }
 
@@ -37,39 +57,52 @@ pub struct Cpa {
 impl BoxKind for Cpa {
     ghost does = { λ s. cpa_box s.r0 s.r1 };
 
+    ghost undoes = { λ s. cpa_box_back s.r0 s.r1 };
+
+    ghost boxed = { λ s. cpa_boxed s.r0 s.r1 };
+
     fn send(&self, cell: Cell, place: u32, x: u64) -> u64 {
-        sent(cell, self.r0 >> place, self.r1 >> place, x)
+        let Cpa { r0, r1 } = self.at(place);
+        let width = cell.width();
+        width.rotate_left(width.add(cell.invert(x ^ r0), r1), 2)
+    }
+
+    fn back(&self, cell: Cell, place: u32, y: u64) -> u64 {
+        let Cpa { r0, r1 } = self.at(place);
+        let width = cell.width();
+        cell.invert(width.sub(width.rotate_right(y, 2), r1)) ^ width.cut(r0)
     }
 }
 
-// The way back of a CPA box.
+impl Cpa {
+    // The random parts from a place on.
+    fn at(self, place: u32) -> Cpa
+        requires { place < 64 }
+        ensures { (result.r0 ≡ self.r0 / 2 ^ place) × (result.r1 ≡ self.r1 / 2 ^ place) }
+    {
+        Cpa {
+            r0: self.r0 >> place,
+            r1: self.r1 >> place,
+        }
+    }
+}
+
+// A kind of box the other way round.
 #[derive(Clone, Copy)]
-pub struct CpaBack {
-    pub r0: u64,
-    pub r1: u64,
-}
+pub struct Turned<K>(pub K);
 
-impl BoxKind for CpaBack {
-    ghost does = { λ s. cpa_box_back s.r0 s.r1 };
+impl<K: BoxKind> BoxKind for Turned<K> {
+    ghost does = { λ s. K.undoes s.0 };
+
+    ghost undoes = { λ s. K.does s.0 };
+
+    ghost boxed = { λ s. turned_boxed (K.does s.0) (K.undoes s.0) (K.boxed s.0) };
 
     fn send(&self, cell: Cell, place: u32, x: u64) -> u64 {
-        sent_back(cell, self.r0 >> place, self.r1 >> place, x)
+        self.0.back(cell, place, x)
     }
-}
 
-// Of r0, r1 and x the lowest bits count.
-fn sent(cell: Cell, r0: u64, r1: u64, x: u64) -> u64
-    ensures is { result ≡ cpa cell.width.bits (r0 % 2 ^ cell.width.bits) (r1 % 2 ^ cell.width.bits) (x % 2 ^ cell.width.bits) }
-    ensures small { result < 2 ^ cell.width.bits }
-{
-    let width = cell.width();
-    width.rotate_left(width.add(cell.invert(x ^ r0), r1), 2)
-}
-
-fn sent_back(cell: Cell, r0: u64, r1: u64, y: u64) -> u64
-    ensures is { result ≡ cpa_back cell.width.bits (r0 % 2 ^ cell.width.bits) (r1 % 2 ^ cell.width.bits) (y % 2 ^ cell.width.bits) }
-    ensures small { result < 2 ^ cell.width.bits }
-{
-    let width = cell.width();
-    cell.invert(width.sub(width.rotate_right(y, 2), r1)) ^ width.cut(r0)
+    fn back(&self, cell: Cell, place: u32, y: u64) -> u64 {
+        self.0.send(cell, place, y)
+    }
 }

@@ -71,8 +71,5 @@ impl Boxes {
 fn wide_of(shape: Shape, last: Cell) -> Cell
     ensures { 0 < low_part shape.wide → result.width.bits ≡ shape.wide }
 {
-    match Cell::of_width(shape.wide) {
-        Some(cell) => cell,
-        None => last,
-    }
+    Cell::of_width(shape.wide).unwrap_or(last)
 }
