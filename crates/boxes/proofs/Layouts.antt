@@ -4,7 +4,7 @@ use Rattle.std.proofs.lemmas.Bool.{and_parts, or_cases, eqb-true, ltb-true, leb-
 use Rattle.field.specs.Widths.{low_part}
 use Rattle.boxes.specs.declared.shape.Shape.{Shape}
 use Rattle.boxes.specs.Layouts.{permitted, candidate, better, choose, best, searched, layout, Cut}
-use Rattle.boxes.specs.Table.{table, row_shape}
+use Rattle.boxes.specs.Table.{table}
 
 abbrev same : Shape → Shape → Bool
 same a b = eqb a.wide b.wide && (eqb a.last b.last && eqb a.count b.count)
@@ -13,9 +13,9 @@ abbrev cuts : ℕ → Shape → Bool
 cuts n s = leb 1 s.count && (eqb (s.last + (s.count - 1) * s.wide) n && (ltb 0 (low_part s.last) && (leb s.count 1 || ltb 0 (low_part s.wide))))
 
 -- a table is right from width n on
-right : ℕ → List (List ℕ) → Bool
+right : ℕ → List Shape → Bool
 right n [] = true
-right n (r ∷ rs) = (same (row_shape r) (layout n) && cuts n (row_shape r)) && right (suc n) rs
+right n (s ∷ ss) = (same s (layout n) && cuts n s) && right (suc n) ss
 
 all_right : right 24 table ≡ true
 unfolding right layout searched best choose better candidate permitted
@@ -45,26 +45,24 @@ cuts_is n s e =
     go more (inl e) = absurd (omega (arith, leb-true s.count 1 e))
     go more (inr e) = ltb-true 0 (low_part s.wide) e
 
-at_place : (n : ℕ) (rs : List (List ℕ)) → right n rs ≡ true → (i : ℕ) → i < length rs
-    → (row_shape (get_or rs i []) ≡ layout (n + i)) × Cut (n + i) (row_shape (get_or rs i []))
+at_place : (n : ℕ) (ss : List Shape) → right n ss ≡ true → (i : ℕ) (d : Shape) → i < length ss
+    → (get_or ss i d ≡ layout (n + i)) × Cut (n + i) (get_or ss i d)
 unfolding right
-at_place n [] t i h = absurd (omega arith)
-at_place n (r ∷ rs) t zero h =
-    let s = row_shape r in
-    let here = (and_parts (same s (layout n) && cuts n s) (right (suc n) rs) t).0 in
+at_place n [] t i d h = absurd (omega arith)
+at_place n (s ∷ ss) t zero d h =
+    let here = (and_parts (same s (layout n) && cuts n s) (right (suc n) ss) t).0 in
     let e : n + 0 ≡ n = omega arith in
     let both = and_parts (same s (layout n)) (cuts n s) here in
     rw e (same_is s (layout n) both.0, cuts_is n s both.1)
-at_place n (r ∷ rs) t (suc i) h =
-    let s = row_shape r in
-    let later = (and_parts (same s (layout n) && cuts n s) (right (suc n) rs) t).1 in
+at_place n (s ∷ ss) t (suc i) d h =
+    let later = (and_parts (same s (layout n) && cuts n s) (right (suc n) ss) t).1 in
     let e : n + suc i ≡ suc n + i = omega arith in
-    rw e (at_place (suc n) rs later i (omega arith))
+    rw e (at_place (suc n) ss later i d (omega arith))
 
-pub shape_right : (n : ℕ) → 24 ≤ n → n ≤ 64 → (row_shape (get_or table (n - 24) []) ≡ layout n) × Cut n (row_shape (get_or table (n - 24) []))
-shape_right n a b =
+pub shape_right : (n : ℕ) (d : Shape) → 24 ≤ n → n ≤ 64 → (get_or table (n - 24) d ≡ layout n) × Cut n (get_or table (n - 24) d)
+shape_right n d a b =
     let e : 24 + (n - 24) ≡ n = omega arith in
-    rw e at (at_place 24 table all_right (n - 24) (omega arith))
+    rw e at (at_place 24 table all_right (n - 24) d (omega arith))
 
 pub layout_cut : (n : ℕ) → 24 ≤ n → n ≤ 64 → Cut n (layout n)
-layout_cut n a b = let r = shape_right n a b in subst (Cut n) r.0 r.1
+layout_cut n a b = let r = shape_right n (layout n) a b in subst (Cut n) r.0 r.1

@@ -1,14 +1,17 @@
 -- The loop over a row of boxes: what is left gives the whole.
-use Rattle.std.proofs.Common.{◌≡◌, ℕ, zero, suc, ◌+◌, ◌-◌, ◌*◌, ◌/◌, ◌%◌, ◌^◌, ◌<◌, ◌≤◌, List, [], ◌∷◌, length, get_or, drop, replicate, sym, refl, ap, ◌∙◌, subst, mul_assoc, add-mul, arith, pow_mono}
+use Rattle.std.proofs.Common.{◌≡◌, ℕ, zero, suc, ◌+◌, ◌-◌, ◌*◌, ◌/◌, ◌%◌, ◌^◌, ◌<◌, ◌≤◌, ◌⊎◌, Some, None, Option, MatchOption, List, [], ◌∷◌, length, get_or, ltb, is_some, IfSome, Bor, drop, replicate, sym, refl, ap, ◌∙◌, subst, inr, mul_assoc, add-mul, arith, pow_mono}
 use Rattle.std.proofs.lemmas.Simd.{get_or-replicate, length-replicate}
 use Rattle.boxes.specs.declared.shape.Shape.{Shape}
 use Rattle.boxes.specs.Layouts.{layout, widths, Cut}
-use Rattle.boxes.proofs.Layouts.{layout_cut}
+use Rattle.boxes.specs.Table.{table}
+use Rattle.boxes.proofs.Layouts.{layout_cut, shape_right}
 use Rattle.std.proofs.lemmas.Nat.{pow-add, mul-add-lt, shl_whole}
 use Rattle.std.proofs.lemmas.List.{drop_more, drop_all}
+use Rattle.std.proofs.lemmas.Bool.{ltb-true, ltb-false}
+use Rattle.std.specs.Option.{option_copied}
 use Rattle.std.specs.List.{AllByRecursion}
 use Rattle.field.specs.Widths.{low_part}
-use Rattle.boxes.specs.Boxes.{Undone, layer, bits_of, flex_box, cpa_box, cpa_box_back, Rows}
+use Rattle.boxes.specs.Boxes.{Undone, Boxed, layer, bits_of, flex_box, cpa_box, cpa_box_back, Rows}
 use Rattle.boxes.specs.Kinds.{flex_boxed, cpa_boxed}
 use Rattle.boxes.proofs.Layers.{layer_undone}
 
@@ -76,20 +79,18 @@ all_replicate : (k w : ℕ) → (0 < k → 0 < low_part w) → AllByRecursion (�
 all_replicate zero w h = tt
 all_replicate (suc k) w h = (h (omega arith), all_replicate k w (λ _. h (omega arith)))
 
+pub rows_undone : (n : ℕ) (s : Shape) → Cut n s → (f g : ℕ → ℕ → ℕ → ℕ) → Boxed f g → Undone n (layer f 0 (widths s)) (layer g 0 (widths s))
+rows_undone n s cut f g boxed =
+    let fields : AllByRecursion (λ m. 0 < low_part m) (widths s) = (cut.last, all_replicate (s.count - 1) s.wide (λ some. cut.wide (omega arith))) in
+    subst (λ z. Undone z (layer f 0 (widths s)) (layer g 0 (widths s))) (bits_widths n s cut) (layer_undone f g boxed (widths s) fields)
+
 pub cut_rows : (n : ℕ) (s : Shape) → Cut n s → Rows n (widths s)
 cut_rows n s cut =
     record {
-      whole = whole;
-      flex = subst (λ z. Undone z (layer flex_box 0 (widths s)) (layer flex_box 0 (widths s))) whole (layer_undone flex_box flex_box flex_boxed (widths s) fields);
-      cpa = λ r0 r1. subst (λ z. Undone z (layer (cpa_box r0 r1) 0 (widths s)) (layer (cpa_box_back r0 r1) 0 (widths s))) whole
-          (layer_undone (cpa_box r0 r1) (cpa_box_back r0 r1) (cpa_boxed r0 r1) (widths s) fields);
+      whole = bits_widths n s cut;
+      flex = rows_undone n s cut flex_box flex_box flex_boxed;
+      cpa = λ r0 r1. rows_undone n s cut (cpa_box r0 r1) (cpa_box_back r0 r1) (cpa_boxed r0 r1);
     }
-  where
-    whole : bits_of (widths s) ≡ n
-    whole = bits_widths n s cut
-
-    fields : AllByRecursion (λ m. 0 < low_part m) (widths s)
-    fields = (cut.last, all_replicate (s.count - 1) s.wide (λ some. cut.wide (omega arith)))
 
 -- both, of the boxes of a width
 pub next_fits : (f : ℕ → ℕ → ℕ → ℕ) (n count x i place left out m : ℕ) → 24 ≤ n → n ≤ 64 → count ≡ (layout n).count → i < count → m ≡ get_or (widths (layout n)) i 0
@@ -108,3 +109,14 @@ added n place m v out h most small below =
     let far : place + m ≤ 64 = omega arith in
     let wider : 2 ^ (place + m) ≤ 2 ^ 64 = pow_mono {j = 64} far in
     omega (arith, mul-add-lt v (2 ^ place) out (2 ^ m) small below, pow-add 2 place m, wider)
+
+-- what is found in the table for a width
+pub row_at : (o : Option (Bor Shape)) (n i : ℕ) → 24 ≤ n → i ≡ n - 24 → is_some o ≡ ltb i 41 → IfSome o (λ s. s.now ≡ get_or table i s.now)
+    → MatchOption (option_copied o) ((n < 24) ⊎ (64 < n)) (λ s. (24 ≤ n) × (n ≤ 64) × (s ≡ layout n) × Cut n s × Rows n (widths s))
+row_at None n i least at some is = inr (let far : 41 ≤ i = ltb-false i 41 (sym some) in omega arith)
+row_at (Some b) n i least at some is =
+    let most : n ≤ 64 = (let here : i < 41 = ltb-true i 41 (sym some) in omega arith) in
+    let right = shape_right n b.now least most in
+    let same : b.now ≡ get_or table (n - 24) b.now = is ∙ ap (λ z. get_or table z b.now) at in
+    let cut : Cut n b.now = subst (Cut n) (sym same) right.1 in
+    (least, most, same ∙ right.0, cut, cut_rows n b.now cut)

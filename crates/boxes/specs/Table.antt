@@ -1,51 +1,52 @@
--- The boxes of the widths from 24 on, as the code has them: for each the wide width, the last width and the count.
-use Rattle.std.specs.Prelude.{ℕ, List, [], ◌∷◌, slice_index}
+-- The boxes of the widths from 24 on, as the code has them.
+use Rattle.std.specs.Prelude.{ℕ, List, [], ◌∷◌}
 use Rattle.boxes.specs.declared.shape.Shape.{Shape}
 
-abbrev pub row_shape : List ℕ → Shape
-row_shape r = record { wide = slice_index r 0; last = slice_index r 1; count = slice_index r 2 }
+-- the width of all boxes but the last, the last width, and the count
+abbrev pub row : ℕ → ℕ → ℕ → Shape
+row w l c = record { wide = w; last = l; count = c }
 
-abbrev pub table : List (List ℕ)
+abbrev pub table : List Shape
 table =
-    (8 ∷ 8 ∷ 3 ∷ [])
-    ∷ (25 ∷ 25 ∷ 1 ∷ [])
-    ∷ (8 ∷ 10 ∷ 3 ∷ [])
-    ∷ (9 ∷ 9 ∷ 3 ∷ [])
-    ∷ (14 ∷ 14 ∷ 2 ∷ [])
-    ∷ (8 ∷ 5 ∷ 4 ∷ [])
-    ∷ (10 ∷ 10 ∷ 3 ∷ [])
-    ∷ (8 ∷ 7 ∷ 4 ∷ [])
-    ∷ (8 ∷ 8 ∷ 4 ∷ [])
-    ∷ (8 ∷ 9 ∷ 4 ∷ [])
-    ∷ (8 ∷ 10 ∷ 4 ∷ [])
-    ∷ (9 ∷ 8 ∷ 4 ∷ [])
-    ∷ (9 ∷ 9 ∷ 4 ∷ [])
-    ∷ (8 ∷ 5 ∷ 5 ∷ [])
-    ∷ (8 ∷ 6 ∷ 5 ∷ [])
-    ∷ (8 ∷ 7 ∷ 5 ∷ [])
-    ∷ (8 ∷ 8 ∷ 5 ∷ [])
-    ∷ (8 ∷ 9 ∷ 5 ∷ [])
-    ∷ (14 ∷ 14 ∷ 3 ∷ [])
-    ∷ (9 ∷ 7 ∷ 5 ∷ [])
-    ∷ (8 ∷ 12 ∷ 5 ∷ [])
-    ∷ (9 ∷ 9 ∷ 5 ∷ [])
-    ∷ (8 ∷ 6 ∷ 6 ∷ [])
-    ∷ (8 ∷ 7 ∷ 6 ∷ [])
-    ∷ (8 ∷ 8 ∷ 6 ∷ [])
-    ∷ (8 ∷ 9 ∷ 6 ∷ [])
-    ∷ (10 ∷ 10 ∷ 5 ∷ [])
-    ∷ (9 ∷ 6 ∷ 6 ∷ [])
-    ∷ (8 ∷ 12 ∷ 6 ∷ [])
-    ∷ (9 ∷ 8 ∷ 6 ∷ [])
-    ∷ (9 ∷ 9 ∷ 6 ∷ [])
-    ∷ (8 ∷ 7 ∷ 7 ∷ [])
-    ∷ (8 ∷ 8 ∷ 7 ∷ [])
-    ∷ (8 ∷ 9 ∷ 7 ∷ [])
-    ∷ (8 ∷ 10 ∷ 7 ∷ [])
-    ∷ (9 ∷ 14 ∷ 6 ∷ [])
-    ∷ (10 ∷ 10 ∷ 6 ∷ [])
-    ∷ (9 ∷ 7 ∷ 7 ∷ [])
-    ∷ (8 ∷ 14 ∷ 7 ∷ [])
-    ∷ (9 ∷ 9 ∷ 7 ∷ [])
-    ∷ (8 ∷ 8 ∷ 8 ∷ [])
+    row 8 8 3
+    ∷ row 25 25 1
+    ∷ row 8 10 3
+    ∷ row 9 9 3
+    ∷ row 14 14 2
+    ∷ row 8 5 4
+    ∷ row 10 10 3
+    ∷ row 8 7 4
+    ∷ row 8 8 4
+    ∷ row 8 9 4
+    ∷ row 8 10 4
+    ∷ row 9 8 4
+    ∷ row 9 9 4
+    ∷ row 8 5 5
+    ∷ row 8 6 5
+    ∷ row 8 7 5
+    ∷ row 8 8 5
+    ∷ row 8 9 5
+    ∷ row 14 14 3
+    ∷ row 9 7 5
+    ∷ row 8 12 5
+    ∷ row 9 9 5
+    ∷ row 8 6 6
+    ∷ row 8 7 6
+    ∷ row 8 8 6
+    ∷ row 8 9 6
+    ∷ row 10 10 5
+    ∷ row 9 6 6
+    ∷ row 8 12 6
+    ∷ row 9 8 6
+    ∷ row 9 9 6
+    ∷ row 8 7 7
+    ∷ row 8 8 7
+    ∷ row 8 9 7
+    ∷ row 8 10 7
+    ∷ row 9 14 6
+    ∷ row 10 10 6
+    ∷ row 9 7 7
+    ∷ row 8 14 7
+    ∷ row 9 9 7
+    ∷ row 8 8 8
     ∷ []

@@ -1,6 +1,6 @@
 // The boxes of a width.
 ghost use Rattle.std.specs.Prelude.{◌≡◌, ◌^◌, ◌<◌, ◌≤◌, ◌⊎◌, MatchOption, slice_index};
-ghost use Rattle.boxes.specs.Boxes.{layer, Rows};
+ghost use Rattle.boxes.specs.Boxes.{layer, Rows, Undone};
 ghost use Rattle.boxes.specs.Layouts.{layout, widths};
 ghost use Rattle.field.specs.Widths.{low_part};
 
@@ -52,6 +52,7 @@ impl Boxes {
     pub fn send<K: BoxKind>(&self, kind: &K, x: u64) -> u64
         ensures is { result ≡ layer (K.BoxKind.does kind.now) 0 (widths (layout self.now.size)) x }
         ensures small { result < 2 ^ self.now.size }
+        ensures undone { Undone self.now.size (layer (K.BoxKind.does kind.now) 0 (widths (layout self.now.size))) (layer (K.BoxKind.undoes kind.now) 0 (widths (layout self.now.size))) }
     {
         let mut out = 0;
         let mut left = x;

@@ -7,40 +7,25 @@ use std::test::Fail;
 // Each of the first `size` bits to itself, and zeros after them.
 fn plain(size: usize) -> [u8; 64] {
     let mut places = [0; 64];
-    for (i, place) in (0u8..64).enumerate() {
-        if i < size && i < 64 {
-            places[i] = place;
-        }
+    for (place, bit) in places.iter_mut().zip(0u8..64).take(size) {
+        *place = bit;
     }
     places
 }
 
 fn width_of(bits: u32) -> Result<Width, Fail> {
-    match Width::new(bits) {
-        Some(width) => Ok(width),
-        None => Err(Fail::new("no such width")),
-    }
+    Width::new(bits).ok_or_else(|| Fail::new("no such width"))
 }
 
 // The list is refused at this place.
 fn faulty(rt: &impl Abort, bits: u32, places: [u8; 64], place: usize) -> Result<(), Fail> {
-    match Order::new(width_of(bits)?, places) {
-        Ok(_) => {
-            assert!(rt; false);
-            Ok(())
-        },
-        Err(fault) => {
-            assert_eq!(rt; fault, NotAnOrder { place });
-            Ok(())
-        },
-    }
+    let order = Order::new(width_of(bits)?, places);
+    assert_eq!(rt; order.err(), Some(NotAnOrder { place }));
+    Ok(())
 }
 
 fn order_of(bits: u32, places: [u8; 64]) -> Result<Order, Fail> {
-    match Order::new(width_of(bits)?, places) {
-        Ok(order) => Ok(order),
-        Err(fault) => Err(Fail::new(fault.place)),
-    }
+    Order::new(width_of(bits)?, places).map_err(|fault| Fail::new(fault.place))
 }
 
 #[test]
@@ -63,9 +48,7 @@ fn bits_move_to_their_places(rt: HostRuntime) -> Result<(), Fail> {
 #[test]
 fn bits_turned_round_at_64(rt: HostRuntime) -> Result<(), Fail> {
     let mut places = plain(64);
-    for i in 0..64 {
-        places[i] = plain(64)[63 - i];
-    }
+    places.reverse();
     let order = order_of(64, places)?;
     assert_eq!(rt; order.apply(1), 1 << 63);
     assert_eq!(rt; order.apply(0xf0), 0x0f << 56);

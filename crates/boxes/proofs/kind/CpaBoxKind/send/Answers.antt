@@ -1,6 +1,5 @@
-use Rattle.std.proofs.Common.{◌%◌, ◌^◌, ap, ◌∙◌}
+use Rattle.std.proofs.Common.{ap, ◌∙◌}
 use Rattle.bits.specs.Words.{sum, turned_left}
-use Rattle.boxes.specs.Boxes.{cpa}
 use Rattle.boxes.proofs.Sent.{sent_is}
 use Rattle.boxes.proofs.kind.CpaBoxKind.send.Goals as goal
 

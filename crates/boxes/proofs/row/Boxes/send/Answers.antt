@@ -1,7 +1,7 @@
 use Rattle.std.proofs.Common.{◌^◌, ◌<◌, ◌≤◌, length, ap, ◌∙◌, arith}
 use Rattle.boxes.specs.Layouts.{layout, widths}
 use Rattle.boxes.proofs.Layouts.{layout_cut}
-use Rattle.boxes.proofs.Rows.{rowed_start, rowed_more, rowed_end, length_widths, bits_widths, next_fits, shifted, added}
+use Rattle.boxes.proofs.Rows.{rowed_start, rowed_more, rowed_end, rows_undone, length_widths, bits_widths, next_fits, shifted, added}
 use Rattle.boxes.proofs.row.Boxes.send.Goals as goal
 
 pub loop-i-init : goal.loop-i-init
@@ -52,4 +52,8 @@ returns g c =
     let long = length_widths b.size (layout b.size) (layout_cut b.size b.least b.fits) in
     let all : length (widths (layout b.size)) ≤ c.loop-i.i = omega (arith, long, b.number, c.loop-i-test.false) in
     let done = rowed_end _ b.size (widths (layout b.size)) c.args.x c.loop-i.i c.loop-i.place c.loop-i.left c.loop-i.out c.loop-i.invariant all in
-    record { is = done.0; small = done.1 }
+    record {
+      is = done.0;
+      small = done.1;
+      undone = rows_undone b.size (layout b.size) (layout_cut b.size b.least b.fits) _ _ (g.met.K.BoxKind.boxed c.args.kind.now);
+    }
