@@ -1,19 +1,26 @@
 -- Words of the code's own steps.
-use Rattle.std.specs.Prelude.{◌≡◌, ℕ, ◌+◌, ◌*◌, ◌/◌, ◌%◌, ◌^◌, bit_and, bit_xor}
+use Rattle.std.specs.Prelude.{◌≡◌, ℕ, ◌+◌, ◌*◌, ◌/◌, ◌%◌, ◌^◌, ◌≤◌, bit_and, bit_xor}
+use Rattle.field.specs.declared.field.Terms.{Terms}
 use Rattle.field.specs.Polynomials.{along}
 use Rattle.field.specs.Fields.{mul_by, square, inverse, IsInverse}
 
 -- A low part of four terms, x^0 and three more; two that are equal cancel.
-abbrev pub low_of : ℕ → ℕ → ℕ → ℕ
-low_of a b c = bit_xor (bit_xor 1 (2 ^ a)) (bit_xor (2 ^ b) (2 ^ c))
+abbrev pub low_of : Terms → ℕ
+low_of t = bit_xor (bit_xor 1 (2 ^ t.first)) (bit_xor (2 ^ t.second) (2 ^ t.third))
+
+-- The terms reach at most to half of m.
+pub record Near (m : ℕ) (t : Terms) : Type 0 where
+  pub first : 2 * t.first ≤ m
+  pub second : 2 * t.second ≤ m
+  pub third : 2 * t.third ≤ m
 
 -- The product of h and such a low part, with nothing taken off.
-abbrev pub taps : ℕ → ℕ → ℕ → ℕ → ℕ
-taps a b c h = bit_xor (bit_xor h (h * 2 ^ a)) (bit_xor (h * 2 ^ b) (h * 2 ^ c))
+abbrev pub taps : Terms → ℕ → ℕ
+taps t h = bit_xor (bit_xor h (h * 2 ^ t.first)) (bit_xor (h * 2 ^ t.second) (h * 2 ^ t.third))
 
 -- What stands above the width comes back as its product with the low part.
-abbrev pub fold : ℕ → ℕ → ℕ → ℕ → ℕ → ℕ
-fold m a b c v = bit_xor (v % 2 ^ m) (taps a b c (v / 2 ^ m))
+abbrev pub fold : ℕ → Terms → ℕ → ℕ
+fold m t v = bit_xor (v % 2 ^ m) (taps t (v / 2 ^ m))
 
 -- What a number of up to 2m bits leaves modulo the polynomial.
 abbrev pub reduced : ℕ → ℕ → ℕ → ℕ

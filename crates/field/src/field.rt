@@ -1,23 +1,50 @@
 // The field of a box width.
 ghost use Rattle.std.specs.Prelude.{◌≡◌, ◌+◌, ◌-◌, ◌*◌, ◌/◌, ◌%◌, ◌^◌, ◌<◌, ◌≤◌, MatchOption};
-ghost use Rattle.field.specs.Code.{low_of, taps, fold, reduced, spaced, spaced_out, Root};
+ghost use Rattle.field.specs.Code.{low_of, Near, taps, fold, reduced, spaced, spaced_out, Root};
 ghost use Rattle.std.specs.Int.Bits.{bit_xor};
 ghost use Rattle.field.specs.Fields.{mul, square, squared, ones, inverse, IsInverse};
 ghost use Rattle.field.specs.Polynomials.{product, Leaves};
 ghost use Rattle.field.specs.Widths.{low_part};
 
-// The low part is written out as 1 + x^first + x^second + x^third, so that a product with it is three shifts; where it has
-// two terms only, second and third are equal and cancel.
+// A low part written out as 1 + x^first + x^second + x^third, so that a product with it is three shifts.
+#[derive(Clone, Copy)]
+struct Terms {
+    first: u32,
+    second: u32,
+    third: u32,
+}
+
+impl Terms {
+    // 1 + x^first, since the other two are equal and cancel.
+    fn two(first: u32) -> Terms
+        ensures { result ≡ record { first = first; second = 0; third = 0 } }
+    {
+        Terms {
+            first,
+            second: 0,
+            third: 0,
+        }
+    }
+
+    fn four(first: u32, second: u32, third: u32) -> Terms
+        ensures { result ≡ record { first = first; second = second; third = third } }
+    {
+        Terms {
+            first,
+            second,
+            third,
+        }
+    }
+}
+
 #[derive(Clone, Copy)]
 pub struct Field {
     width: u32,
     low: u64,
-    first: u32,
-    second: u32,
-    third: u32,
+    terms: Terms,
     ghost few: { width ≤ 32 },
-    ghost spelt: { low ≡ low_of first second third },
-    ghost near: { (2 * first ≤ width) × (2 * second ≤ width) × (2 * third ≤ width) },
+    ghost spelt: { low ≡ low_of terms },
+    ghost near: { Near width terms },
     ghost known: { low ≡ low_part width },
     ghost some: { 0 < low },
 }
@@ -27,44 +54,15 @@ impl Field {
     pub fn of_width(width: u32) -> Option<Field>
         ensures { MatchOption result (low_part width ≡ 0) (λ f. (f.width ≡ width) × (f.low ≡ low_part width)) }
     {
-        match width {
-            5 => Some(Field {
-                width,
-                low: 0x05,
-                first: 2,
-                second: 0,
-                third: 0,
-            }),
-            6 | 7 | 9 => Some(Field {
-                width,
-                low: 0x03,
-                first: 1,
-                second: 0,
-                third: 0,
-            }),
-            8 => Some(Field {
-                width,
-                low: 0x1b,
-                first: 1,
-                second: 3,
-                third: 4,
-            }),
-            10 | 12 | 25 => Some(Field {
-                width,
-                low: 0x09,
-                first: 3,
-                second: 0,
-                third: 0,
-            }),
-            14 => Some(Field {
-                width,
-                low: 0x21,
-                first: 5,
-                second: 0,
-                third: 0,
-            }),
-            _ => None,
-        }
+        let (low, terms) = match width {
+            5 => (0x05, Terms::two(2)),
+            6 | 7 | 9 => (0x03, Terms::two(1)),
+            8 => (0x1b, Terms::four(1, 3, 4)),
+            10 | 12 | 25 => (0x09, Terms::two(3)),
+            14 => (0x21, Terms::two(5)),
+            _ => return None,
+        };
+        Some(Field { width, low, terms })
     }
 
     pub fn width(self) -> u32
@@ -90,7 +88,7 @@ impl Field {
     // What stands above the width comes back as its product with the low part.
     fn fold(self, v: u64) -> u64
         requires within { v < 2 ^ (self.width + self.width) }
-        ensures { result ≡ fold self.width self.first self.second self.third v }
+        ensures { result ≡ fold self.width self.terms v }
     {
         let high = v >> self.width;
         self.own_bits(v) ^ self.taps(high)
@@ -99,9 +97,10 @@ impl Field {
     // The product of h and the low part.
     fn taps(self, h: u64) -> u64
         requires within { h < 2 ^ self.width }
-        ensures { result ≡ taps self.first self.second self.third h }
+        ensures { result ≡ taps self.terms h }
     {
-        (h ^ (h << self.first)) ^ ((h << self.second) ^ (h << self.third))
+        let terms = self.terms;
+        (h ^ (h << terms.first)) ^ ((h << terms.second) ^ (h << terms.third))
     }
 
     // What v leaves modulo the polynomial. The low part reaches up to half the width at most, so two folds do.

@@ -8,13 +8,13 @@ pub fold-requires-2 : goal.fold-requires-2
 fold-requires-2 c =
     let f = c.args.self in
     let t = field_good f.width f.low f.known f.some in
-    record { within = rw c.fold.ensures (folded_small f.width f.low t.small (omega (arith, t.wide)) f.first f.second f.third f.spelt f.near.0 f.near.1 f.near.2 c.args.v c.requires.within) }
+    record { within = rw c.fold.ensures (folded_small f.width f.low t.small (omega (arith, t.wide)) f.terms f.spelt f.near c.args.v c.requires.within) }
 
 pub returns : goal.returns
 returns c =
     let f = c.args.self in
     let t = field_good f.width f.low f.known f.some in
     let e = c.fold-2.ensures
-    ∙ ap (fold f.width f.first f.second f.third) c.fold.ensures
-    ∙ two_folds f.width f.low t.small (omega (arith, t.wide)) f.first f.second f.third f.spelt f.near.0 f.near.1 f.near.2 c.args.v c.requires.within in
+    ∙ ap (fold f.width f.terms) c.fold.ensures
+    ∙ two_folds f.width f.low t.small (omega (arith, t.wide)) f.terms f.spelt f.near c.args.v c.requires.within in
     record { is = e; small = rw e (reduced_lt f.width f.low t.small (omega (arith, t.wide)) c.args.v) }
