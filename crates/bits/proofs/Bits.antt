@@ -2,7 +2,7 @@
 use Rattle.std.proofs.Common.{◌≡◌, ℕ, zero, suc, ◌+◌, ◌-◌, ◌*◌, ◌/◌, ◌%◌, ◌^◌, ◌<◌, ◌≤◌, ◌⊎◌, sym, ap, ◌∙◌, subst, inl, inr, add-zero, mod-lt, mod-eq_of_lt, mul_assoc, mul_comm, pow-suc, div-one, arith, pow_pos, pow_mono, pow-add, shr-shr, shr_lt}
 use native.Mathlib.Nat.{div-eq_of_lt}
 use lib.Arith.{digits_lt}
-use lib.Pow.{field, mod-mod-pow, high, low, shl-shr, split}
+use lib.Pow.{field, mod-mod-pow, high, low, split}
 use Rattle.std.proofs.lemmas.Bool.{cases_order}
 use Rattle.bits.specs.Bits.{bit}
 
@@ -37,13 +37,6 @@ bit_low k a b i small h = sym (bit_mod k (a * 2 ^ k + b) i h) ∙ ap (λ y. bit 
 
 pub bit_high : (k a b i : ℕ) → b < 2 ^ k → bit (a * 2 ^ k + b) (k + i) ≡ bit a i
 bit_high k a b i small = sym (bit_shr (a * 2 ^ k + b) k i) ∙ ap (λ y. bit y i) (high a k small)
-
-pub bit_shl : (x k i : ℕ) → bit (x * 2 ^ k) (k + i) ≡ bit x i
-bit_shl x k i = sym (bit_shr (x * 2 ^ k) k i) ∙ ap (λ y. bit y i) (shl-shr x k)
-
-pub bit_shl_low : (x k i : ℕ) → i < k → bit (x * 2 ^ k) i ≡ 0
-bit_shl_low x k i h =
-    ap (λ y. bit y i) (sym (add-zero (x * 2 ^ k))) ∙ bit_low k x 0 i (pow_pos k) h ∙ bit_above 0 0 i (omega arith) (omega arith)
 
 -- Two numbers of n bits with the same bits are the same number.
 pub same_bits : (n x y : ℕ) → x < 2 ^ n → y < 2 ^ n → ((i : ℕ) → i < n → bit x i ≡ bit y i) → x ≡ y

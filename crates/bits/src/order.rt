@@ -1,17 +1,29 @@
 // Orders of the bits of a number.
-ghost use Rattle.std.specs.Prelude.{◌≡◌, ◌*◌, ◌%◌, ◌^◌, ◌<◌, length, take, MatchOption, MatchResult, slice_index};
+ghost use Rattle.std.specs.Prelude.{◌≡◌, ◌*◌, ◌%◌, ◌^◌, ◌<◌, take, MatchOption, MatchResult};
 ghost use Rattle.bits.specs.Bits.{bit};
-ghost use Rattle.bits.specs.Orders.{IsOrder, Applied, Undone, FirstFault, Sound, among, fault_at};
+ghost use Rattle.bits.specs.Orders.{IsOrder, order, Applied, Undone, FirstFault, Sound, among, fault_at};
 
 use crate::width::Width;
+use std::marker::Model;
 
 // Bit i of a number moves to bit places[i]. The places after the size do not count and are 0.
 #[derive(Clone, Copy)]
 pub struct Order {
     size: Width,
     places: [u8; 64],
-    ghost long: { length places ≡ 64 },
-    ghost sound: { Sound size.bits places },
+}
+
+impl Model for Order {
+    ghost use Rattle.std.specs.Prelude.{◌≡◌, length};
+    ghost use Rattle.bits.specs.Orders.{Listed, Sound};
+
+    ghost Value = { Listed };
+
+    ghost view = { λ o. record { size = o.size; places = o.places } };
+
+    ghost invariant = { λ o. (length o.places ≡ 64) × Sound o.size.bits o.places };
+
+    ghost inverse = { λ l. record { size = l.size; places = l.places } };
 }
 
 // The first place that is too large, stands before too, or is not 0 after the size.
@@ -37,14 +49,15 @@ impl Order {
     }
 
     pub fn places(&self) -> &[u8; 64]
-        ensures { result.now ≡ self.now.places }
+        ensures is { result.now ≡ self.now.places }
+        ensures sound { Sound self.now.size.bits result.now }
     {
         &self.places
     }
 
     // x with each bit moved to its place. Of x the lowest bits count, as many as the size says.
     pub fn apply(&self, x: u64) -> u64
-        ensures { Applied self.now.size.bits (take self.now.size.bits self.now.places) x result }
+        ensures { Applied self.now.size.bits (order self.now) x result }
     {
         self.used()
             .iter()
@@ -55,7 +68,7 @@ impl Order {
 
     // y with each bit fetched back from its place.
     pub fn undo(&self, y: u64) -> u64
-        ensures { Undone self.now.size.bits (take self.now.size.bits self.now.places) y result }
+        ensures { Undone self.now.size.bits (order self.now) y result }
     {
         self.used()
             .iter()
@@ -67,7 +80,7 @@ impl Order {
     // The places that count.
     #[tactic(auto, using(crate::proofs::Orders::sound_order))]
     fn used(&self) -> &[u8]
-        ensures is { result.now ≡ take self.now.size.bits self.now.places }
+        ensures is { result.now ≡ order self.now }
         ensures order { IsOrder self.now.size.bits result.now }
     {
         let Order { size, places } = self;

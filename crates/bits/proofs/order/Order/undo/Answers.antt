@@ -1,7 +1,8 @@
 use Rattle.std.proofs.Common.{rules, ◌∙◌, of_calls}
-use Rattle.std.proofs.lemmas.Iterator.{YieldsList-from_slice, YieldsList-from_map}
-use Rattle.std.proofs.lemmas.Iterator.Consumers.{YieldsList-at, YieldsList-from_enumerate, sum_from_yields_List, fits_from_yields_list}
+use Rattle.std.proofs.lemmas.Iterator.{YieldsList-from_map}
+use Rattle.std.proofs.lemmas.Iterator.Consumers.{YieldsList-at, sum_from_yields_List, fits_from_yields_list}
 use Rattle.std.proofs.lemmas.Iterator.Adapters.{serves_from_places}
+use Rattle.bits.proofs.Numbered.{numbered}
 use Rattle.bits.proofs.Orders.{fetched, shifts, fetched_sum, fetched_fits, undone}
 use Rattle.bits.proofs.order.Order.undo.Goals as goal
 
@@ -10,7 +11,7 @@ sum-requires-clause-can c =
     let s = c.args.self.now.size in
     let used = c.used.result.now in (
       search of_calls,
-      serves_from_places (YieldsList-at c.map.ensures.source (YieldsList-from_enumerate (YieldsList-at c.enumerate.ensures.source (YieldsList-from_slice used cc)) cc))
+      serves_from_places (YieldsList-at c.map.ensures.source (numbered used (cc) (cc)))
           (λ p q k. search rules)
           (λ p k h e. let both = shifts s.bits used c.used.ensures.order s.fits k (p.0, p.1.now) h e in search rules),
     )
@@ -20,7 +21,7 @@ sum-requires-clause-fits c =
     let s = c.args.self.now.size in
     let used = c.used.result.now in
     fits_from_yields_list c.map.result _
-    (YieldsList-from_map _ (fetched c.args.y) (YieldsList-at c.map.ensures.source (YieldsList-from_enumerate (YieldsList-at c.enumerate.ensures.source (YieldsList-from_slice used cc)) cc)) c.map.ensures.closure (λ p r q k. search rules))
+    (YieldsList-from_map _ (fetched c.args.y) (YieldsList-at c.map.ensures.source (numbered used (cc) (cc))) c.map.ensures.closure (λ p r q k. search rules))
     (fetched_fits s.bits used c.used.ensures.order s.fits c.args.y)
 
 pub returns : goal.returns
@@ -28,5 +29,5 @@ returns c =
     let s = c.args.self.now.size in
     let used = c.used.result.now in
     let all = sum_from_yields_List c.map.result c.sum.result c.sum.ensures.ran
-    (YieldsList-from_map _ (fetched c.args.y) (YieldsList-at c.map.ensures.source (YieldsList-from_enumerate (YieldsList-at c.enumerate.ensures.source (YieldsList-from_slice used cc)) cc)) c.map.ensures.closure (λ p r q k. search rules)) in
+    (YieldsList-from_map _ (fetched c.args.y) (YieldsList-at c.map.ensures.source (numbered used (cc) (cc))) c.map.ensures.closure (λ p r q k. search rules)) in
     rw (← c.used.ensures.is) (undone s.bits used c.used.ensures.order c.args.y c.sum.result (all ∙ fetched_sum s.bits used c.used.ensures.order s.fits c.args.y))
