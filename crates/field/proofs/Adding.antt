@@ -3,7 +3,7 @@ use Rattle.std.proofs.Common.{◌≡◌, ℕ, suc, ◌+◌, ◌-◌, ◌*◌, �
 use lib.Bits.{bit_xor, bit_and, xor_assoc, xor_zero_r}
 use Rattle.std.proofs.lemmas.Nat.{and_mask, shl_whole, shr-shr}
 use Rattle.field.specs.Polynomials.{along, doubled, product}
-use Rattle.field.proofs.Sums.{pow_suc}
+use Rattle.std.proofs.Math.Nat.{pow-succ'}
 
 -- the term that the code adds is the product's
 pub term_is : (w a b i : ℕ) → w ≤ 32 → a < 2 ^ w → i < w → bit_and (b / 2 ^ i) 1 * ((a * 2 ^ i) % 2 ^ 64) ≡ b / 2 ^ i % 2 * (a * 2 ^ i)
@@ -17,7 +17,7 @@ unfolding along
 turn w a b i sum term whole hi is inv =
     let next : suc i ≡ i + 1 = omega arith in
     let one_more : w - i ≡ suc (w - (i + 1)) = omega arith in
-    let up : doubled (a * 2 ^ i) ≡ a * 2 ^ (i + 1) = sym (mul_left_comm a 2 (2 ^ i)) ∙ ap (λ z. a * z) (sym (pow_suc i)) ∙ ap (λ z. a * 2 ^ z) next in
+    let up : doubled (a * 2 ^ i) ≡ a * 2 ^ (i + 1) = sym (mul_left_comm a 2 (2 ^ i)) ∙ ap (λ z. a * z) (sym (pow-succ' 2 i)) ∙ ap (λ z. a * 2 ^ z) next in
     xor_assoc sum term (product (w - (i + 1)) (a * 2 ^ (i + 1)) (b / 2 ^ (i + 1)))
     ∙ ap (λ z. bit_xor sum (bit_xor z (product (w - (i + 1)) (a * 2 ^ (i + 1)) (b / 2 ^ (i + 1))))) is
     ∙ ap (λ z. bit_xor sum (bit_xor (b / 2 ^ i % 2 * (a * 2 ^ i)) (product (w - (i + 1)) z (b / 2 ^ (i + 1))))) (sym up)

@@ -2,7 +2,8 @@
 use Rattle.std.proofs.Common.{◌≡◌, ℕ, zero, suc, ◌+◌, ◌*◌, ◌/◌, ◌%◌, ◌^◌, ◌<◌, sym, refl, ap, ◌∙◌, arith}
 use lib.Bits.{bit_xor, xor_self, xor_zero_r, xor_mod, xor_shr}
 use Rattle.field.specs.Polynomials.{along}
-use Rattle.field.proofs.Sums.{crosswise, cancels, scale, scale_by, once, never, pow_suc}
+use Rattle.field.proofs.Sums.{crosswise, cancels, scale, scale_by}
+use Rattle.std.proofs.Math.Nat.{one-mul, zero-mul, pow-succ'}
 
 -- k times t
 abbrev pub up : (ℕ → ℕ) → ℕ → ℕ → ℕ
@@ -42,7 +43,7 @@ module _ (t : ℕ → ℕ) where
   pub along_none : (k a : ℕ) → along t k a 0 ≡ 0
   unfolding along
   along_none zero a = refl
-  along_none (suc k) a = ap (λ z. bit_xor z (along t k (t a) 0)) (never a) ∙ along_none k (t a)
+  along_none (suc k) a = ap (λ z. bit_xor z (along t k (t a) 0)) (zero-mul a) ∙ along_none k (t a)
 
   -- bits that b has not do not count
   pub along_more : (k j a b : ℕ) → b < 2 ^ k → along t (k + j) a b ≡ along t k a b
@@ -53,18 +54,18 @@ module _ (t : ℕ → ℕ) where
       ap (λ z. along t z a b) f ∙ ap (along t j a) e ∙ along_none j a
   along_more (suc k) j a b h =
       let e : suc k + j ≡ suc (k + j) = omega arith in
-      ap (λ z. along t z a b) e ∙ ap (bit_xor (b % 2 * a)) (along_more k j (t a) (b / 2) (omega (arith, pow_suc k)))
+      ap (λ z. along t z a b) e ∙ ap (bit_xor (b % 2 * a)) (along_more k j (t a) (b / 2) (omega (arith, pow-succ' 2 k)))
 
   -- at a power of 2
   pub along_power : (k i a : ℕ) → i < k → along t k a (2 ^ i) ≡ up t i a
   unfolding along
   along_power zero i a h = absurd (omega arith)
-  along_power (suc k) zero a h = ap (λ z. bit_xor z (along t k (t a) 0)) (once a) ∙ ap (bit_xor a) (along_none k (t a)) ∙ xor_zero_r a
+  along_power (suc k) zero a h = ap (λ z. bit_xor z (along t k (t a) 0)) (one-mul a) ∙ ap (bit_xor a) (along_none k (t a)) ∙ xor_zero_r a
   along_power (suc k) (suc i) a h =
-      let odd : 2 ^ suc i % 2 ≡ 0 = omega (arith, pow_suc i) in
-      let half : 2 ^ suc i / 2 ≡ 2 ^ i = omega (arith, pow_suc i) in
+      let odd : 2 ^ suc i % 2 ≡ 0 = omega (arith, pow-succ' 2 i) in
+      let half : 2 ^ suc i / 2 ≡ 2 ^ i = omega (arith, pow-succ' 2 i) in
       ap (λ z. bit_xor (z * a) (along t k (t a) (2 ^ suc i / 2))) odd
-      ∙ ap (λ z. bit_xor z (along t k (t a) (2 ^ suc i / 2))) (never a)
+      ∙ ap (λ z. bit_xor z (along t k (t a) (2 ^ suc i / 2))) (zero-mul a)
       ∙ ap (along t k (t a)) half
       ∙ along_power k i (t a) (omega arith)
 
@@ -73,8 +74,8 @@ module _ (t : ℕ → ℕ) where
     none_kept = sym (cancels (t 0) (t 0)) ∙ ap (bit_xor (t 0)) (sym (linear.adds 0 0 linear.none linear.none)) ∙ xor_self (t 0)
 
     scaled : (c a : ℕ) → c < 2 → D a → D (c * a)
-    scaled zero a hc ha = rw (never a) linear.none
-    scaled (suc zero) a hc ha = rw (once a) ha
+    scaled zero a hc ha = rw (zero-mul a) linear.none
+    scaled (suc zero) a hc ha = rw (one-mul a) ha
     scaled (suc (suc c)) a hc ha = absurd (omega arith)
 
     pub along_in : (k a b : ℕ) → D a → D (along t k a b)
@@ -101,13 +102,13 @@ module _ (t : ℕ → ℕ) where
 
     -- none or one of it, in either place
     pub along_scaled : (k c a b : ℕ) → c < 2 → along t k (c * a) b ≡ along t k a (c * b)
-    along_scaled k zero a b h = ap (λ z. along t k z b) (never a) ∙ along_zero k b ∙ sym (ap (along t k a) (never b) ∙ along_none k a)
-    along_scaled k (suc zero) a b h = ap (λ z. along t k z b) (once a) ∙ sym (ap (along t k a) (once b))
+    along_scaled k zero a b h = ap (λ z. along t k z b) (zero-mul a) ∙ along_zero k b ∙ sym (ap (along t k a) (zero-mul b) ∙ along_none k a)
+    along_scaled k (suc zero) a b h = ap (λ z. along t k z b) (one-mul a) ∙ sym (ap (along t k a) (one-mul b))
     along_scaled k (suc (suc c)) a b h = absurd (omega arith)
 
     scales : (c a : ℕ) → c < 2 → t (c * a) ≡ c * t a
-    scales zero a h = ap t (never a) ∙ none_kept ∙ sym (never (t a))
-    scales (suc zero) a h = ap t (once a) ∙ sym (once (t a))
+    scales zero a h = ap t (zero-mul a) ∙ none_kept ∙ sym (zero-mul (t a))
+    scales (suc zero) a h = ap t (one-mul a) ∙ sym (one-mul (t a))
     scales (suc (suc c)) a h = absurd (omega arith)
 
     -- t goes out of it

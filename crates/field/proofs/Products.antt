@@ -6,7 +6,8 @@ use lib.Bits.{bit_xor, xor_zero_r, xor_lt, xor_mod, xor_shr}
 use Rattle.std.proofs.lemmas.Bool.{cases_eq}
 use Rattle.std.proofs.lemmas.Nat.{pow_pos, pow_below, div_below, mod_below}
 use Rattle.field.specs.Fields.{twice, mul_by, mul}
-use Rattle.field.proofs.Sums.{crosswise, scale_by, double, once, never, scaled_below, Adds, agree, pow_suc}
+use Rattle.field.proofs.Sums.{crosswise, scale_by, double, scaled_below, Adds, agree}
+use Rattle.std.proofs.Math.Nat.{one-mul, zero-mul, pow-succ'}
 use Rattle.field.proofs.Along.{Linear, up, up_last, up_adds, along_in, along_adds, along_adds_r, along_step, along_power}
 
 abbrev pub Below : ℕ → ℕ → Type 0
@@ -52,20 +53,20 @@ module _ (m low : ℕ) (small : low < 2 ^ m) where
   twice_below a h =
       ap (λ z. bit_xor z (2 * a / 2 ^ m * low)) (mod-eq_of_lt h)
       ∙ ap (λ z. bit_xor (2 * a) (z * low)) (div-eq_of_lt h)
-      ∙ ap (bit_xor (2 * a)) (never low)
+      ∙ ap (bit_xor (2 * a)) (zero-mul low)
       ∙ xor_zero_r (2 * a)
 
   pub twice_power : (i : ℕ) → suc i < m → twice m low (2 ^ i) ≡ 2 ^ suc i
-  twice_power i h = twice_below (2 ^ i) (omega (arith, pow_suc i, pow_below (suc i) m h)) ∙ sym (pow_suc i)
+  twice_power i h = twice_below (2 ^ i) (omega (arith, pow-succ' 2 i, pow_below (suc i) m h)) ∙ sym (pow-succ' 2 i)
 
   pub twice_top : (i : ℕ) → suc i ≡ m → twice m low (2 ^ i) ≡ low
   unfolding twice
   twice_top i h =
-      let e : 2 * 2 ^ i ≡ 2 ^ m = sym (pow_suc i) ∙ ap (λ z. 2 ^ z) h in
+      let e : 2 * 2 ^ i ≡ 2 ^ m = sym (pow-succ' 2 i) ∙ ap (λ z. 2 ^ z) h in
       ap (λ z. bit_xor (z % 2 ^ m) (z / 2 ^ m * low)) e
       ∙ ap (λ z. bit_xor z (2 ^ m / 2 ^ m * low)) (mod_self (2 ^ m))
       ∙ ap (λ z. z * low) (div_self (pow_pos m))
-      ∙ once low
+      ∙ one-mul low
 
   pub up_power : (k i : ℕ) → k + i < m → up (twice m low) k (2 ^ i) ≡ 2 ^ (k + i)
   up_power zero i h = let e : i ≡ 0 + i = omega arith in ap (λ z. 2 ^ z) e

@@ -6,7 +6,7 @@ use Rattle.field.specs.declared.field.Terms.{Terms}
 use Rattle.field.specs.Polynomials.{product}
 use Rattle.field.specs.Fields.{twice, mul}
 use Rattle.field.specs.Code.{low_of, Near, taps, fold, reduced}
-use Rattle.field.proofs.Sums.{pow_suc}
+use Rattle.std.proofs.Math.Nat.{pow-succ'}
 use Rattle.field.proofs.Along.{up, up_last, along_adds_r, along_power}
 use Rattle.field.proofs.Products.{mul_low, mul_one, mul_by_lt, one_lt}
 use Rattle.field.proofs.Remainders.{rest, rest_adds, rest_doubled, rest_small, rest_own, rest_product}
@@ -46,7 +46,7 @@ module _ (m low : ℕ) (small : low < 2 ^ m) (wide : 0 < m) where
       ap (λ z. rest m low small wide z (h * 2 ^ 0)) e ∙ ap (rest m low small wide k) f
   rest_moved (suc j) k h =
       let e : k + suc j ≡ suc (k + j) = omega arith in
-      let f : h * 2 ^ suc j ≡ 2 * (h * 2 ^ j) = ap (λ z. h * z) (pow_suc j) ∙ mul_left_comm h 2 (2 ^ j) in
+      let f : h * 2 ^ suc j ≡ 2 * (h * 2 ^ j) = ap (λ z. h * z) (pow-succ' 2 j) ∙ mul_left_comm h 2 (2 ^ j) in
       ap (λ z. rest m low small wide z (h * 2 ^ suc j)) e
       ∙ ap (rest m low small wide (suc (k + j))) f
       ∙ rest_doubled m low small wide (k + j) (h * 2 ^ j)

@@ -4,7 +4,8 @@ use lib.Bits.{bit_xor, xor_assoc, xor_comm, xor_self, xor_zero_r, xor_lt, xor_sh
 use Rattle.std.proofs.lemmas.Nat.{pow_pos, shr_split, mod_below, div_below}
 use Rattle.field.specs.Polynomials.{along, doubled, product, modulus, Leaves}
 use Rattle.field.specs.Fields.{twice, mul_by, mul}
-use Rattle.field.proofs.Sums.{crosswise, scale, double, once, never, scaled_below, pow_suc}
+use Rattle.field.proofs.Sums.{crosswise, scale, double, scaled_below}
+use Rattle.std.proofs.Math.Nat.{one-mul, zero-mul, pow-succ'}
 use Rattle.field.proofs.Along.{Linear, odd_lt, along_adds, along_adds_r, along_none, along_more, along_power, along_step, along_zero, along_scaled}
 use Rattle.field.proofs.Products.{Below, twice_lt, twice_linear, mul_by_lt, one_lt, one_mul, up_width}
 
@@ -23,7 +24,7 @@ product_lt zero j a b h =
 product_lt (suc k) j a b h =
     let e : suc j + k ≡ j + suc k = omega arith in
     let wider : 2 ^ j ≤ 2 ^ (j + suc k) = pow_mono (omega arith) in
-    let below = product_lt k (suc j) (doubled a) (b / 2) (omega (arith, pow_suc j)) in
+    let below = product_lt k (suc j) (doubled a) (b / 2) (omega (arith, pow-succ' 2 j)) in
     let rest = rw e at below in
     xor_lt (j + suc k) (b % 2 * a) (product (suc k) (doubled a) (b / 2)) (omega (arith, wider, scaled_below j (b % 2) a (odd_lt b) h)) rest
 
@@ -52,8 +53,8 @@ module _ (m low : ℕ) (small : low < 2 ^ m) (wide : 0 < m) where
   rest_more k j u h = along_more (twice m low) k j 1 u h
 
   rest_scaled : (k c u : ℕ) → c < 2 → rest k (c * u) ≡ c * rest k u
-  rest_scaled k zero u h = ap (rest k) (never u) ∙ rest_none k ∙ sym (never (rest k u))
-  rest_scaled k (suc zero) u h = ap (rest k) (once u) ∙ sym (once (rest k u))
+  rest_scaled k zero u h = ap (rest k) (zero-mul u) ∙ rest_none k ∙ sym (zero-mul (rest k u))
+  rest_scaled k (suc zero) u h = ap (rest k) (one-mul u) ∙ sym (one-mul (rest k u))
   rest_scaled k (suc (suc c)) u h = absurd (omega arith)
 
   pub rest_doubled : (k u : ℕ) → rest (suc k) (2 * u) ≡ twice m low (rest k u)
@@ -77,23 +78,23 @@ module _ (m low : ℕ) (small : low < 2 ^ m) (wide : 0 < m) where
       rest_adds (j + suc k) (b % 2 * a) (product k (doubled a) (b / 2))
       ∙ ap (λ z. bit_xor z (rest (j + suc k) (product k (doubled a) (b / 2)))) (rest_more j (suc k) (b % 2 * a) (scaled_below j (b % 2) a (odd_lt b) h) ∙ rest_scaled j (b % 2) a (odd_lt b))
       ∙ ap (λ z. bit_xor (b % 2 * rest j a) (rest z (product k (doubled a) (b / 2)))) e
-      ∙ ap (bit_xor (b % 2 * rest j a)) (rest_product k (suc j) (doubled a) (b / 2) (omega (arith, pow_suc j)) ∙ ap (λ z. mul_by m low k z (b / 2)) (rest_doubled j a))
+      ∙ ap (bit_xor (b % 2 * rest j a)) (rest_product k (suc j) (doubled a) (b / 2) (omega (arith, pow-succ' 2 j)) ∙ ap (λ z. mul_by m low k z (b / 2)) (rest_doubled j a))
 
   rest_top : rest (suc m) (2 ^ m) ≡ low
   rest_top = along_power (twice m low) (suc m) m 1 (omega arith) ∙ up_width m low small wide
 
   rest_modulus : rest (suc m) (modulus m low) ≡ 0
   rest_modulus =
-      let apart : 2 ^ m + low ≡ bit_xor (1 * 2 ^ m) low = sym (xor_shifted 1 m low small ∙ ap (λ z. z + low) (once (2 ^ m))) in
+      let apart : 2 ^ m + low ≡ bit_xor (1 * 2 ^ m) low = sym (xor_shifted 1 m low small ∙ ap (λ z. z + low) (one-mul (2 ^ m))) in
       let e : suc m ≡ m + 1 = omega arith in
-      ap (rest (suc m)) (apart ∙ ap (λ z. bit_xor z low) (once (2 ^ m)))
+      ap (rest (suc m)) (apart ∙ ap (λ z. bit_xor z low) (one-mul (2 ^ m)))
       ∙ rest_adds (suc m) (2 ^ m) low
       ∙ ap (λ z. bit_xor z (rest (suc m) low)) rest_top
       ∙ ap (bit_xor low) (ap (λ z. rest z low) e ∙ rest_small 1 low small)
       ∙ xor_self low
 
   modulus_lt : modulus m low < 2 ^ suc m
-  modulus_lt = omega (arith, pow_suc m, small)
+  modulus_lt = omega (arith, pow-succ' 2 m, small)
 
   -- multiples of the polynomial leave nothing
   rest_multiple : (k q : ℕ) → rest (suc m + k) (product k (modulus m low) q) ≡ 0
@@ -128,7 +129,7 @@ module _ (m low : ℕ) (small : low < 2 ^ m) (wide : 0 < m) where
       let c = 2 * a / 2 ^ m in
       let r = 2 * a % 2 ^ m in
       let hc : c < 2 = div_below (2 * a) (2 ^ m) 2 (pow_pos m) (omega arith) in
-      let apart : 2 ^ m + low ≡ bit_xor (2 ^ m) low = sym (ap (λ z. bit_xor z low) (sym (once (2 ^ m))) ∙ xor_shifted 1 m low small ∙ ap (λ z. z + low) (once (2 ^ m))) in
+      let apart : 2 ^ m + low ≡ bit_xor (2 ^ m) low = sym (ap (λ z. bit_xor z low) (sym (one-mul (2 ^ m))) ∙ xor_shifted 1 m low small ∙ ap (λ z. z + low) (one-mul (2 ^ m))) in
       sym (ap (λ z. bit_xor (bit_xor r (c * low)) (c * z)) apart
       ∙ ap (bit_xor (bit_xor r (c * low))) (scale c (2 ^ m) low hc)
       ∙ crosswise r (c * low) (c * 2 ^ m) (c * low)
@@ -147,7 +148,7 @@ module _ (m low : ℕ) (small : low < 2 ^ m) (wide : 0 < m) where
   goes : (k a b : ℕ) → a < 2 ^ m → b < 2 ^ k → Goes k a b
   unfolding along
   goes zero a b ha hb = record { times = 0; few = omega arith; is = refl }
-  goes (suc k) a b ha hb = step (goes k (twice m low a) (b / 2) (twice_lt m low small a ha) (omega (arith, pow_suc k)))
+  goes (suc k) a b ha hb = step (goes k (twice m low a) (b / 2) (twice_lt m low small a ha) (omega (arith, pow-succ' 2 k)))
     where
       c : ℕ
       c = 2 * a / 2 ^ m
@@ -159,7 +160,7 @@ module _ (m low : ℕ) (small : low < 2 ^ m) (wide : 0 < m) where
       step g =
           record {
             times = q;
-            few = omega (arith, pow_suc k, below);
+            few = omega (arith, pow-succ' 2 k, below);
             is =
                 ap (λ z. bit_xor (b % 2 * a) (product k z (b / 2))) (carried a ha)
                 ∙ ap (bit_xor (b % 2 * a)) (along_adds doubled Any doubled_linear k (b / 2) (twice m low a) (c * modulus m low) (omega arith) (omega arith)
@@ -175,7 +176,7 @@ module _ (m low : ℕ) (small : low < 2 ^ m) (wide : 0 < m) where
           q = bit_xor g.times (c * (b / 2))
 
           below : q < 2 ^ k
-          below = xor_lt k g.times (c * (b / 2)) g.few (scaled_below k c (b / 2) hc (omega (arith, pow_suc k)))
+          below = xor_lt k g.times (c * (b / 2)) g.few (scaled_below k c (b / 2) hc (omega (arith, pow-succ' 2 k)))
 
           rest_of : ℕ
           rest_of = mul_by m low k (twice m low a) (b / 2)

@@ -7,7 +7,8 @@ use Rattle.std.proofs.lemmas.Bool.{and_parts, eqb-true, cases_eq}
 use Rattle.field.specs.Polynomials.{along}
 use Rattle.field.specs.Fields.{twice, square}
 use Rattle.field.specs.Code.{reduced, quadrupled, spread, spaced, spaced_out}
-use Rattle.field.proofs.Sums.{crosswise, agree, each, pow_suc}
+use Rattle.field.proofs.Sums.{crosswise, agree, each}
+use Rattle.std.proofs.Math.Nat.{pow-succ'}
 use Rattle.field.proofs.Along.{up, up_join, along_adds_r, along_none, along_power}
 use Rattle.field.proofs.Products.{up_one}
 use Rattle.field.proofs.Powers.{square_adds}
@@ -33,7 +34,7 @@ masked_adds zero keep a b h =
     ap (bit_and (bit_xor a b)) none ∙ and_zero_r (bit_xor a b) ∙ sym (ap (λ z. bit_xor (bit_and a z) (bit_and b z)) none ∙ ap (λ z. bit_xor z (bit_and b 0)) (and_zero_r a) ∙ and_zero_r b)
 masked_adds (suc k) keep a b h =
     by_digits (bit_and (bit_xor a b) keep) (bit_xor (bit_and a keep) (bit_and b keep))
-    (and_shr (bit_xor a b) keep 1 ∙ ap (λ z. bit_and z (keep / 2)) (xor_shr a b 1) ∙ masked_adds k (keep / 2) (a / 2) (b / 2) (omega (arith, pow_suc k))
+    (and_shr (bit_xor a b) keep 1 ∙ ap (λ z. bit_and z (keep / 2)) (xor_shr a b 1) ∙ masked_adds k (keep / 2) (a / 2) (b / 2) (omega (arith, pow-succ' 2 k))
     ∙ sym (xor_shr (bit_and a keep) (bit_and b keep) 1 ∙ ap (λ z. bit_xor z (bit_and b keep / 2)) (and_shr a keep 1) ∙ ap (bit_xor (bit_and (a / 2) (keep / 2))) (and_shr b keep 1)))
     (and_mod (bit_xor a b) keep 1 ∙ ap (λ z. bit_and z (keep % 2)) (xor_mod a b 1) ∙ digit (a % 2) (b % 2) (keep % 2) (omega arith) (omega arith) (omega arith)
     ∙ sym (xor_mod (bit_and a keep) (bit_and b keep) 1 ∙ ap (λ z. bit_xor z (bit_and b keep % 2)) (and_mod a keep 1) ∙ ap (bit_xor (bit_and (a % 2) (keep % 2))) (and_mod b keep 1)))
@@ -97,7 +98,7 @@ up_quadrupled : (i j : ℕ) → up quadrupled i (2 ^ j) ≡ 2 ^ (j + (i + i))
 up_quadrupled zero j = let e : j ≡ j + (0 + 0) = omega arith in ap (λ z. 2 ^ z) e
 up_quadrupled (suc i) j =
     let e : suc (suc j) + (i + i) ≡ j + (suc i + suc i) = omega arith in
-    let f : 4 * 2 ^ j ≡ 2 ^ suc (suc j) = omega (arith, pow_suc j, pow_suc (suc j)) in
+    let f : 4 * 2 ^ j ≡ 2 ^ suc (suc j) = omega (arith, pow-succ' 2 j, pow-succ' 2 (suc j)) in
     ap (up quadrupled i) f ∙ up_quadrupled i (suc (suc j)) ∙ ap (λ z. 2 ^ z) e
 
 module _ (m low : ℕ) (small : low < 2 ^ m) (wide : 0 < m) (few : m ≤ 32) where

@@ -1,6 +1,7 @@
 -- Exclusive or as a sum, and maps that keep it: two that agree on the powers of 2 agree.
 use Rattle.std.proofs.Common.{◌≡◌, ℕ, zero, suc, ◌*◌, ◌/◌, ◌%◌, ◌^◌, ◌<◌, ◌≤◌, sym, refl, ap, ◌∙◌, subst, arith, pow_mono}
 use lib.Bits.{bit_xor, xor_assoc, xor_comm, xor_self, xor_zero_l, xor_zero_r, xor_shifted, xor_step, differ}
+use Rattle.std.proofs.Math.Nat.{pow-succ', one-mul, zero-mul}
 use Rattle.std.proofs.lemmas.Nat.{pow_pos, pow-add, shr_split, div_below, mod_below}
 
 -- the four terms of two sums, summed crosswise
@@ -18,26 +19,20 @@ cancels a b = sym (xor_assoc a a b) ∙ ap (λ z. bit_xor z b) (xor_self a) ∙ 
 pub part : (a b c : ℕ) → bit_xor a b ≡ bit_xor a c → b ≡ c
 part a b c e = sym (cancels a b) ∙ ap (bit_xor a) e ∙ cancels a c
 
-pub once : (n : ℕ) → 1 * n ≡ n
-once n = omega arith
-
-pub never : (n : ℕ) → 0 * n ≡ 0
-never n = omega arith
-
 pub scaled_below : (k c a : ℕ) → c < 2 → a < 2 ^ k → c * a < 2 ^ k
-scaled_below k zero a hc ha = rw (never a) (pow_pos k)
-scaled_below k (suc zero) a hc ha = rw (once a) ha
+scaled_below k zero a hc ha = rw (zero-mul a) (pow_pos k)
+scaled_below k (suc zero) a hc ha = rw (one-mul a) ha
 scaled_below k (suc (suc c)) a hc ha = absurd (omega arith)
 
 pub scale : (c u v : ℕ) → c < 2 → c * bit_xor u v ≡ bit_xor (c * u) (c * v)
-scale zero u v h = rw (never (bit_xor u v), never u, never v) refl
-scale (suc zero) u v h = once (bit_xor u v) ∙ sym (ap (λ z. bit_xor z (1 * v)) (once u) ∙ ap (bit_xor u) (once v))
+scale zero u v h = rw (zero-mul (bit_xor u v), zero-mul u, zero-mul v) refl
+scale (suc zero) u v h = one-mul (bit_xor u v) ∙ sym (ap (λ z. bit_xor z (1 * v)) (one-mul u) ∙ ap (bit_xor u) (one-mul v))
 scale (suc (suc c)) u v h = absurd (omega arith)
 
 pub scale_by : (c d w : ℕ) → c < 2 → d < 2 → bit_xor c d * w ≡ bit_xor (c * w) (d * w)
-scale_by zero d w hc hd = rw (never w) refl
-scale_by (suc zero) zero w hc hd = sym (ap (bit_xor (1 * w)) (never w) ∙ xor_zero_r (1 * w))
-scale_by (suc zero) (suc zero) w hc hd = never w ∙ sym (xor_self (1 * w))
+scale_by zero d w hc hd = rw (zero-mul w) refl
+scale_by (suc zero) zero w hc hd = sym (ap (bit_xor (1 * w)) (zero-mul w) ∙ xor_zero_r (1 * w))
+scale_by (suc zero) (suc zero) w hc hd = zero-mul w ∙ sym (xor_self (1 * w))
 scale_by (suc zero) (suc (suc d)) w hc hd = absurd (omega arith)
 scale_by (suc (suc c)) d w hc hd = absurd (omega arith)
 
@@ -50,9 +45,6 @@ double a b =
 
     even : (n : ℕ) → 2 * n % 2 ≡ 0
     even n = omega arith
-
-pub pow_suc : (k : ℕ) → 2 ^ suc k ≡ 2 * 2 ^ k
-pow_suc k = omega (arith, pow-add 2 k 1)
 
 -- f keeps sums of numbers below 2^k
 abbrev pub Adds : ℕ → (ℕ → ℕ) → Type 0
@@ -74,7 +66,7 @@ splits k x h =
     record {
       high = x / 2 ^ k;
       low = x % 2 ^ k;
-      bit = div_below x (2 ^ k) 2 (pow_pos k) (omega (arith, pow_suc k));
+      bit = div_below x (2 ^ k) 2 (pow_pos k) (omega (arith, pow-succ' 2 k));
       small = mod_below x (2 ^ k) (pow_pos k);
       is = sym (xor_shifted (x / 2 ^ k) k (x % 2 ^ k) (mod_below x (2 ^ k) (pow_pos k)) ∙ shr_split x k);
     }
@@ -89,12 +81,12 @@ each P k none sums powers (suc j) h x small = go (splits j x small) (each P k no
     below = pow_mono h
 
     part_of : (c : ℕ) → c < 2 → P (c * 2 ^ j)
-    part_of zero _ = subst P (sym (never (2 ^ j))) none
-    part_of (suc zero) _ = subst P (sym (once (2 ^ j))) (powers j (omega arith))
+    part_of zero _ = subst P (sym (zero-mul (2 ^ j))) none
+    part_of (suc zero) _ = subst P (sym (one-mul (2 ^ j))) (powers j (omega arith))
     part_of (suc (suc c)) l = absurd (omega arith)
 
     go : Split j x → ((y : ℕ) → y < 2 ^ j → P y) → P x
-    go s lower = subst P (sym s.is) (sums (s.high * 2 ^ j) s.low (scaled_below k s.high (2 ^ j) s.bit (omega (arith, below, pow_suc j, pow_pos j))) (omega (arith, below, pow_suc j, s.small)) (part_of s.high s.bit) (lower s.low s.small))
+    go s lower = subst P (sym s.is) (sums (s.high * 2 ^ j) s.low (scaled_below k s.high (2 ^ j) s.bit (omega (arith, below, pow-succ' 2 j, pow_pos j))) (omega (arith, below, pow-succ' 2 j, s.small)) (part_of s.high s.bit) (lower s.low s.small))
 
 -- two maps that keep sums and agree on the powers of 2 agree
 pub agree : (k : ℕ) (f g : ℕ → ℕ) → Adds k f → Adds k g → ((i : ℕ) → i < k → f (2 ^ i) ≡ g (2 ^ i)) → (x : ℕ) → x < 2 ^ k → f x ≡ g x
