@@ -2,7 +2,7 @@
 use Rattle.std.proofs.Common.{◌≡◌, ℕ, zero, suc, ◌*◌, ◌/◌, ◌%◌, ◌^◌, ◌<◌, ◌≤◌, sym, refl, ap, ◌∙◌, subst, arith, pow_mono}
 use lib.Bits.{bit_xor, xor_assoc, xor_comm, xor_self, xor_zero_l, xor_zero_r, xor_shifted, xor_step, differ}
 use Rattle.std.proofs.Math.Nat.{pow-succ', one-mul, zero-mul}
-use Rattle.std.proofs.lemmas.Nat.{pow_pos, pow-add, shr_split, div_below, mod_below}
+use Rattle.std.proofs.lemmas.Nat.{pow_pos, shr_split, div_below, mod_below}
 
 -- the four terms of two sums, summed crosswise
 pub crosswise : (a b c d : ℕ) → bit_xor (bit_xor a b) (bit_xor c d) ≡ bit_xor (bit_xor a c) (bit_xor b d)

@@ -78,7 +78,11 @@ impl Field {
         self.low
     }
 
+    // From here on a value has at most as many bits as the width, which each clause says: a type of values would carry its
+    // field, and each call would ask in its place that two fields are the same.
+
     // The lowest bits of v, as many as the width has.
+    #[tactic(auto, using(std::proofs::lemmas::Nat::and_mask, std::proofs::lemmas::Nat::one_shl))]
     fn own_bits(self, v: u64) -> u64
         ensures { result ≡ v % 2 ^ self.width }
     {
@@ -121,6 +125,7 @@ impl Field {
         ensures reduces { reduced self.width self.low result ≡ mul self.width self.low a b }
         ensures leaves { Leaves self.width self.low (product self.width a b) (reduced self.width self.low result) }
     {
+        // A loop over the bits of b: a fold over the same range is no plainer.
         let mut sum = 0;
         for i in 0..self.width {
             sum ^= ((b >> i) & 1) * (a << i);

@@ -1,5 +1,4 @@
-use Rattle.std.proofs.Common.{◌≡◌, ap, ◌∙◌, arith}
-use Rattle.field.specs.Fields.{squared}
+use Rattle.std.proofs.Common.{arith}
 use Rattle.field.proofs.Tested.{field_good}
 use Rattle.field.proofs.Chaining.{squared_none, squared_next}
 use Rattle.field.proofs.field.Field.squared.Goals as goal
@@ -15,9 +14,3 @@ loop-preserved c =
     let f = c.args.self in
     let t = field_good f.width f.low f.known f.some in
     (squared_next f.width f.low t.small (omega (arith, t.wide)) c.loop.counter c.args.a c.loop.power _ c.loop.invariant.0 c.square-power.ensures.is, c.square-power.ensures.small)
-
-pub returns : goal.returns
-returns c =
-    let f = c.args.self in
-    let all : c.loop.counter ≡ c.args.k = omega (arith, c.loop-test.false, c.loop.auto.counter-end) in
-    record { is = c.loop.invariant.0 ∙ ap (λ z. squared f.width f.low z c.args.a) all; small = c.loop.invariant.1 }
