@@ -48,11 +48,11 @@ impl Boxes {
         if i == 0 { self.last } else { self.wide }
     }
 
-    // A number sent through the boxes. Of x the lowest bits count, as many as the boxes have.
+    // A number sent through the boxes, which the ways back undo. Of x the lowest bits count, as many as the boxes have.
     pub fn send<K: BoxKind>(&self, kind: &K, x: u64) -> u64
         ensures is { result ≡ layer (K.BoxKind.does kind.now) 0 (widths (layout self.now.size)) x }
         ensures small { result < 2 ^ self.now.size }
-        ensures undone { Undone self.now.size (layer (K.BoxKind.does kind.now) 0 (widths (layout self.now.size))) (layer (K.BoxKind.undoes kind.now) 0 (widths (layout self.now.size))) }
+        ensures undone { let ms = widths (layout self.now.size) in Undone self.now.size (layer (K.does kind.now) 0 ms) (layer (K.undoes kind.now) 0 ms) }
     {
         let mut out = 0;
         let mut left = x;
