@@ -78,8 +78,8 @@ impl Field {
         self.low
     }
 
-    // From here on a value has at most as many bits as the width, which each clause says: a type of values would carry its
-    // field, and each call would ask in its place that two fields are the same.
+    // From here on a value has at most as many bits as the width, and each call asks so: a type of values would carry its field,
+    // and each call would ask in its place that two fields are the same.
 
     // The lowest bits of v, as many as the width has.
     #[tactic(auto, using(std::proofs::lemmas::Nat::and_mask, std::proofs::lemmas::Nat::one_shl))]
@@ -110,8 +110,7 @@ impl Field {
     // What v leaves modulo the polynomial. The low part reaches up to half the width at most, so two folds do.
     fn reduce(self, v: u64) -> u64
         requires within { v < 2 ^ (self.width + self.width) }
-        ensures is { result ≡ reduced self.width self.low v }
-        ensures small { result < 2 ^ self.width }
+        ensures { result ≡ reduced self.width self.low v }
     {
         self.fold(self.fold(v))
     }
@@ -121,7 +120,6 @@ impl Field {
         requires a_within { a < 2 ^ self.width }
         requires b_within { b < 2 ^ self.width }
         ensures is { result ≡ product self.width a b }
-        ensures small { result < 2 ^ (self.width + self.width) }
         ensures reduces { reduced self.width self.low result ≡ mul self.width self.low a b }
         ensures leaves { Leaves self.width self.low (product self.width a b) (reduced self.width self.low result) }
     {
@@ -134,11 +132,11 @@ impl Field {
     }
 
     // The product in the field.
+    #[tactic(auto, using(crate::proofs::Small::times_small))]
     fn product(self, a: u64, b: u64) -> u64
         requires a_within { a < 2 ^ self.width }
         requires b_within { b < 2 ^ self.width }
         ensures is { result ≡ mul self.width self.low a b }
-        ensures small { result < 2 ^ self.width }
         ensures leaves { Leaves self.width self.low (product self.width a b) result }
     {
         self.reduce(self.times(a, b))
@@ -155,17 +153,16 @@ impl Field {
 
     fn square(self, a: u64) -> u64
         requires within { a < 2 ^ self.width }
-        ensures is { result ≡ square self.width self.low a }
-        ensures small { result < 2 ^ self.width }
+        ensures { result ≡ square self.width self.low a }
     {
         self.reduce(self.spread(a))
     }
 
     // a squared k times.
+    #[tactic(auto, using(crate::proofs::Small::square_small, crate::proofs::Small::squared_small))]
     fn squared(self, a: u64, k: u32) -> u64
         requires within { a < 2 ^ self.width }
-        ensures is { result ≡ squared self.width self.low k a }
-        ensures small { result < 2 ^ self.width }
+        ensures { result ≡ squared self.width self.low k a }
     {
         let mut power = a;
         for _ in 0..k {
@@ -176,10 +173,10 @@ impl Field {
 
     // a^(2^k - 1), by an addition chain: an exponent of k ones is half of them moved up by as many places and the half
     // again, and one more where k is odd.
+    #[tactic(auto, using(crate::proofs::Small::mul_small, crate::proofs::Small::square_small, crate::proofs::Small::squared_small, crate::proofs::Small::ones_small))]
     fn ones(self, a: u64, k: u32) -> u64
         requires within { a < 2 ^ self.width }
         ensures is { result ≡ ones self.width self.low k a }
-        ensures small { result < 2 ^ self.width }
         ensures root { k + 1 ≡ self.width → Root self.width self.low a result }
     {
         if k == 0 {
@@ -206,6 +203,7 @@ impl Field {
     }
 
     // The inverse of a box value, the lowest bits of a, and 0 for 0.
+    #[tactic(auto, using(crate::proofs::Small::ones_small))]
     pub fn inverse(self, a: u64) -> u64
         ensures is { result ≡ inverse self.width self.low (a % 2 ^ self.width) }
         ensures inverts { IsInverse self.width self.low (a % 2 ^ self.width) result }

@@ -1,7 +1,6 @@
 use Rattle.std.proofs.Common.{◌≡◌, ◌+◌, ◌/◌, ap, ◌∙◌, arith}
 use Rattle.field.specs.Fields.{ones}
 use Rattle.field.proofs.Tested.{field_good}
-use Rattle.field.proofs.Products.{one_lt}
 use Rattle.field.proofs.Chaining.{ones_none, ones_one, ones_even, ones_odd, ones_root}
 use Rattle.field.proofs.field.Field.+ones.Goals as goal
 
@@ -13,7 +12,6 @@ returns-then-k-eq0 t c =
     record {
       is = e;
       root = ones_root f.width f.low good c.args.k c.args.a _ c.requires.within e;
-      small = one_lt f.width f.low good.small (omega (arith, good.wide));
     }
 
 pub returns-then-k-eq1 : goal.returns-then-k-eq1
@@ -21,29 +19,27 @@ returns-then-k-eq1 t c =
     let f = c.args.self in
     let good = field_good f.width f.low f.known f.some in
     let e = ones_one f.width f.low good.small (omega (arith, good.wide)) c.args.k c.args.a c.if-k-eq1.true c.requires.within in
-    record { is = e; root = ones_root f.width f.low good c.args.k c.args.a _ c.requires.within e; small = c.requires.within }
+    record { is = e; root = ones_root f.width f.low good c.args.k c.args.a _ c.requires.within e }
 
 pub returns-then-k-eq0-2 : goal.returns-then-k-eq0-2
 returns-then-k-eq0-2 t c =
     let f = c.args.self in
     let good = field_good f.width f.low f.known f.some in
     let whole : c.args.k / 2 + c.args.k / 2 ≡ c.args.k = omega (arith, c.if-k-eq0-2.true) in
-    let e = ones_even f.width f.low good.small (omega (arith, good.wide)) c.args.k c.args.a _ _ _ c.requires.within c.ones-half.ensures.is c.squared.ensures.is c.product-even.ensures.is
+    let e = ones_even f.width f.low good.small (omega (arith, good.wide)) c.args.k c.args.a _ _ _ c.requires.within c.ones-half.ensures.is c.squared.ensures c.product-even.ensures.is
     ∙ ap (λ z. ones f.width f.low z c.args.a) whole in
     record {
       is = e;
       root = ones_root f.width f.low good c.args.k c.args.a _ c.requires.within e;
-      small = c.product-even.ensures.small;
     }
 
 pub returns-else-k-eq0-2 : goal.returns-else-k-eq0-2
 returns-else-k-eq0-2 t c =
     let f = c.args.self in
     let good = field_good f.width f.low f.known f.some in
-    let even = ones_even f.width f.low good.small (omega (arith, good.wide)) c.args.k c.args.a _ _ _ c.requires.within c.ones-half.ensures.is c.squared.ensures.is c.product-even.ensures.is in
-    let e = ones_odd f.width f.low good.small (omega (arith, good.wide)) c.args.k c.args.a _ _ _ c.if-k-eq0-2.false even c.square.ensures.is c.product.ensures.is in
+    let even = ones_even f.width f.low good.small (omega (arith, good.wide)) c.args.k c.args.a _ _ _ c.requires.within c.ones-half.ensures.is c.squared.ensures c.product-even.ensures.is in
+    let e = ones_odd f.width f.low good.small (omega (arith, good.wide)) c.args.k c.args.a _ _ _ c.if-k-eq0-2.false even c.square.ensures c.product.ensures.is in
     record {
       is = e;
       root = ones_root f.width f.low good c.args.k c.args.a _ c.requires.within e;
-      small = c.product.ensures.small;
     }

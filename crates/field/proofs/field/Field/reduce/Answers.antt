@@ -1,7 +1,7 @@
 use Rattle.std.proofs.Common.{ap, ◌∙◌, arith}
 use Rattle.field.specs.Code.{fold}
 use Rattle.field.proofs.Tested.{field_good}
-use Rattle.field.proofs.Reducing.{two_folds, folded_small, reduced_lt}
+use Rattle.field.proofs.Reducing.{two_folds, folded_small}
 use Rattle.field.proofs.field.Field.reduce.Goals as goal
 
 pub fold-requires-2 : goal.fold-requires-2
@@ -17,4 +17,4 @@ returns c =
     let e = c.fold-2.ensures
     ∙ ap (fold f.width f.terms) c.fold.ensures
     ∙ two_folds f.width f.low t.small (omega (arith, t.wide)) f.terms f.spelt f.near c.args.v c.requires.within in
-    record { is = e; small = rw e (reduced_lt f.width f.low t.small (omega (arith, t.wide)) c.args.v) }
+    e

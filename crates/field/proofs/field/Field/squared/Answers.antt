@@ -7,10 +7,10 @@ pub loop-init : goal.loop-init
 loop-init c =
     let f = c.args.self in
     let t = field_good f.width f.low f.known f.some in
-    (squared_none f.width f.low t.small (omega (arith, t.wide)) c.args.a, c.requires.within)
+    squared_none f.width f.low t.small (omega (arith, t.wide)) c.args.a
 
 pub loop-preserved : goal.loop-preserved
 loop-preserved c =
     let f = c.args.self in
     let t = field_good f.width f.low f.known f.some in
-    (squared_next f.width f.low t.small (omega (arith, t.wide)) c.loop.counter c.args.a c.loop.power _ c.loop.invariant.0 c.square-power.ensures.is, c.square-power.ensures.small)
+    squared_next f.width f.low t.small (omega (arith, t.wide)) c.loop.counter c.args.a c.loop.power _ c.loop.invariant c.square-power.ensures

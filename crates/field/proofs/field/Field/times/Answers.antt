@@ -1,7 +1,7 @@
 use Rattle.std.proofs.Common.{arith}
 use Rattle.field.proofs.Adding.{term_is, turn, ended}
 use Rattle.field.proofs.Tested.{field_good}
-use Rattle.field.proofs.Remainders.{product_below, product_leaves}
+use Rattle.field.proofs.Remainders.{product_leaves}
 use Rattle.field.proofs.Reducing.{product_reduces}
 use Rattle.field.proofs.field.Field.times.Goals as goal
 
@@ -19,7 +19,6 @@ returns c =
     let reduces = product_reduces f.width f.low t.small (omega (arith, t.wide)) c.args.a c.args.b c.requires.a_within in
     record {
       is = e;
-      small = rw e (product_below f.width f.width c.args.a c.args.b c.requires.a_within);
       reduces = rw e reduces;
       leaves = rw (e, reduces) (product_leaves f.width f.low t.small (omega (arith, t.wide)) c.args.a c.args.b c.requires.a_within c.requires.b_within);
     }
