@@ -39,7 +39,7 @@ impl Boxes {
         })
     }
 
-    // Box i, the lowest first.
+    // Box i, the lowest first. Two cells are all that a row holds, so there is no list to go over.
     #[tactic(auto, using(crate::proofs::Rows::wide_at))]
     fn cell(&self, i: u32) -> Cell
         requires { i < self.now.count }

@@ -9,4 +9,4 @@ pub mod Reducing
 pub mod Adding
 pub mod Spreading
 pub mod Chaining
-pub mod Small
+pub mod Values

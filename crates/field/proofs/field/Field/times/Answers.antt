@@ -1,6 +1,6 @@
 use Rattle.std.proofs.Common.{arith}
 use Rattle.field.proofs.Adding.{term_is, turn, ended}
-use Rattle.field.proofs.Tested.{field_good}
+use Rattle.field.proofs.Values.{tested}
 use Rattle.field.proofs.Remainders.{product_leaves}
 use Rattle.field.proofs.Reducing.{product_reduces}
 use Rattle.field.proofs.field.Field.times.Goals as goal
@@ -14,7 +14,7 @@ loop-i-preserved c =
 pub returns : goal.returns
 returns c =
     let f = c.args.self in
-    let t = field_good f.width f.low f.known f.some in
+    let t = tested f in
     let e = ended f.width c.args.a c.args.b c.loop-i.i c.loop-i.sum _ c.loop-i-test.false c.loop-i.invariant in
     let reduces = product_reduces f.width f.low t.small (omega (arith, t.wide)) c.args.a c.args.b c.requires.a_within in
     record {

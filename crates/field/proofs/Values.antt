@@ -1,4 +1,4 @@
--- Products, squares and powers of a field's values have at most as many bits as its width.
+-- A field passed the test, and products, squares and powers of its values have at most as many bits as its width.
 use Rattle.std.proofs.Common.{◌≡◌, ℕ, ◌+◌, ◌^◌, ◌<◌}
 use Rattle.field.specs.declared.field.Field.{Field}
 use Rattle.field.specs.Polynomials.{product}
@@ -10,7 +10,7 @@ use Rattle.field.proofs.Products.{mul_by_lt}
 use Rattle.field.proofs.Powers.{squared_lt, ones_lt}
 use Rattle.std.proofs.Math.Nat.{le_of_lt}
 
-tested : (f : Field) → Tested f.width f.low
+pub tested : (f : Field) → Tested f.width f.low
 tested f = field_good f.width f.low f.known f.some
 
 pub mul_small : (f : Field) (a b r : ℕ) → a < 2 ^ f.width → r ≡ mul f.width f.low a b → r < 2 ^ f.width
