@@ -1,6 +1,7 @@
 -- The loop over a row of boxes: what is left gives the whole.
 use Rattle.std.proofs.Common.{◌≡◌, ℕ, zero, suc, ◌+◌, ◌-◌, ◌*◌, ◌/◌, ◌%◌, ◌^◌, ◌<◌, ◌≤◌, ◌⊎◌, Some, None, Option, MatchOption, List, [], ◌∷◌, length, get_or, ltb, is_some, IfSome, Bor, drop, replicate, sym, refl, ap, ◌∙◌, subst, inr, mul_assoc, add-mul, arith, pow_mono}
 use Rattle.std.proofs.lemmas.Simd.{get_or-replicate, length-replicate}
+use Rattle.boxes.specs.declared.row.Boxes.{Boxes}
 use Rattle.boxes.specs.declared.shape.Shape.{Shape}
 use Rattle.boxes.specs.Layouts.{layout, widths, Cut}
 use Rattle.boxes.specs.Table.{table}
@@ -92,21 +93,27 @@ cut_rows n s cut =
       cpa = λ r0 r1. rows_undone n s cut (cpa_box r0 r1) (cpa_box_back r0 r1) (cpa_boxed r0 r1);
     }
 
--- both, of the boxes of a width
-pub next_fits : (f : ℕ → ℕ → ℕ → ℕ) (n count x i place left out m : ℕ) → 24 ≤ n → n ≤ 64 → count ≡ (layout n).count → i < count → m ≡ get_or (widths (layout n)) i 0
-    → Rowed f n (widths (layout n)) x i place left out → (i < length (widths (layout n))) × (place + m ≤ n)
-next_fits f n count x i place left out m least most ec hi em r =
-    let long = length_widths n (layout n) (layout_cut n least most) in
-    let here : i < length (widths (layout n)) = omega (arith, long, ec, hi) in
-    (here, room f n (widths (layout n)) x i place left out m r here em)
+-- The next box of a row, of which the code knows the number of bits.
+pub record Next (b : Boxes) (i place bits : ℕ) : Type 0 where
+  pub here : i < length (widths (layout b.size))
+  pub width : bits ≡ get_or (widths (layout b.size)) i 0
+  pub room : place + bits ≤ 64
+
+pub next : (b : Boxes) (f : ℕ → ℕ → ℕ → ℕ) (x i place left out bits m : ℕ) → i < b.count → m ≡ get_or (widths (layout b.size)) i 0 → bits ≡ m
+    → Rowed f b.size (widths (layout b.size)) x i place left out → Next b i place bits
+next b f x i place left out bits m hi em same r =
+    let long = length_widths b.size (layout b.size) (layout_cut b.size b.least b.fits) in
+    let here : i < length (widths (layout b.size)) = omega (arith, long, b.number, hi) in
+    let width = same ∙ em in
+    let most = room f b.size (widths (layout b.size)) x i place left out bits r here width in
+    record { here = here; width = width; room = omega (arith, most, b.fits) }
 
 -- what the code shifts and adds stays whole
-pub shifted : (n place m v : ℕ) → place + m ≤ n → n ≤ 64 → v < 2 ^ m → v * 2 ^ place % 2 ^ 64 ≡ v * 2 ^ place
-shifted n place m v h most small = shl_whole v m place 64 small (omega arith)
+pub shifted : (place m v : ℕ) → place + m ≤ 64 → v < 2 ^ m → v * 2 ^ place % 2 ^ 64 ≡ v * 2 ^ place
+shifted place m v h small = shl_whole v m place 64 small (omega arith)
 
-pub added : (n place m v out : ℕ) → place + m ≤ n → n ≤ 64 → v < 2 ^ m → out < 2 ^ place → out + v * 2 ^ place < 2 ^ 64
-added n place m v out h most small below =
-    let far : place + m ≤ 64 = omega arith in
+pub added : (place m v out : ℕ) → place + m ≤ 64 → v < 2 ^ m → out < 2 ^ place → out + v * 2 ^ place < 2 ^ 64
+added place m v out far small below =
     let wider : 2 ^ (place + m) ≤ 2 ^ 64 = pow_mono {j = 64} far in
     omega (arith, mul-add-lt v (2 ^ place) out (2 ^ m) small below, pow-add 2 place m, wider)
 

@@ -39,7 +39,7 @@ impl Boxes {
         })
     }
 
-    // Box i, the lowest first. Two cells are all that a row holds, so there is no list to go over.
+    // Box i, the lowest first. A row holds two cells and no list, and a chain of a cell and so many copies is no plainer.
     #[tactic(auto, using(crate::proofs::Rows::wide_at))]
     fn cell(&self, i: u32) -> Cell
         requires { i < self.now.count }

@@ -1,7 +1,7 @@
 use Rattle.std.proofs.Common.{◌^◌, ◌<◌, ◌≤◌, length, ap, ◌∙◌, arith}
 use Rattle.boxes.specs.Layouts.{layout, widths}
 use Rattle.boxes.proofs.Layouts.{layout_cut}
-use Rattle.boxes.proofs.Rows.{rowed_start, rowed_more, rowed_end, rows_undone, length_widths, bits_widths, next_fits, shifted, added}
+use Rattle.boxes.proofs.Rows.{next, rowed_start, rowed_more, rowed_end, rows_undone, length_widths, bits_widths, shifted, added}
 use Rattle.boxes.proofs.row.Boxes.send.Goals as goal
 
 pub loop-i-init : goal.loop-i-init
@@ -11,49 +11,50 @@ loop-i-init g c =
 
 pub send-requires : goal.send-requires
 send-requires g c =
-    let b = c.args.self.now in
-    let em = c.bits-bits.ensures ∙ ap (λ z. z.bits) c.width.ensures ∙ c.cell-cell.ensures in
-    let t = next_fits _ b.size b.count c.args.x c.loop-i.i c.loop-i.place c.loop-i.left c.loop-i.out c.bits-bits.result b.least b.fits b.number c.loop-i-test.true em c.loop-i.invariant in
-    record { near = omega (arith, t.1, b.fits, c.bits-bits.ensures, c.width.result.some) }
+    let l = c.loop-i in
+    let same = c.bits-bits.ensures ∙ ap (λ z. z.bits) c.width.ensures in
+    let n = next c.args.self.now _ c.args.x l.i l.place l.left l.out c.bits-bits.result _ c.loop-i-test.true c.cell-cell.ensures same l.invariant in
+    record { near = omega (arith, n.room, c.bits-bits.ensures, c.width.result.some) }
 
 pub overflow_shl-out : goal.overflow_shl-out
 overflow_shl-out g c =
-    let b = c.args.self.now in
-    let em = c.bits-bits.ensures ∙ ap (λ z. z.bits) c.width.ensures ∙ c.cell-cell.ensures in
-    let t = next_fits _ b.size b.count c.args.x c.loop-i.i c.loop-i.place c.loop-i.left c.loop-i.out c.bits-bits.result b.least b.fits b.number c.loop-i-test.true em c.loop-i.invariant in
-    omega (arith, t.1, b.fits, c.bits-bits.ensures, c.width.result.some)
+    let l = c.loop-i in
+    let same = c.bits-bits.ensures ∙ ap (λ z. z.bits) c.width.ensures in
+    let n = next c.args.self.now _ c.args.x l.i l.place l.left l.out c.bits-bits.result _ c.loop-i-test.true c.cell-cell.ensures same l.invariant in
+    omega (arith, n.room, c.bits-bits.ensures, c.width.result.some)
 
 pub overflow_add-out : goal.overflow_add-out
 overflow_add-out g c =
-    let b = c.args.self.now in
-    let em = c.bits-bits.ensures ∙ ap (λ z. z.bits) c.width.ensures ∙ c.cell-cell.ensures in
-    let t = next_fits _ b.size b.count c.args.x c.loop-i.i c.loop-i.place c.loop-i.left c.loop-i.out c.bits-bits.result b.least b.fits b.number c.loop-i-test.true em c.loop-i.invariant in
+    let l = c.loop-i in
     let same = c.bits-bits.ensures ∙ ap (λ z. z.bits) c.width.ensures in
+    let n = next c.args.self.now _ c.args.x l.i l.place l.left l.out c.bits-bits.result _ c.loop-i-test.true c.cell-cell.ensures same l.invariant in
     let small : c.send.result < 2 ^ c.bits-bits.result = rw same c.send.ensures.small in
     record {
-      fits = rw (shifted b.size c.loop-i.place c.bits-bits.result c.send.result t.1 b.fits small)
-          (added b.size c.loop-i.place c.bits-bits.result c.send.result c.loop-i.out t.1 b.fits small c.loop-i.invariant.below);
+      fits = rw (shifted l.place c.bits-bits.result c.send.result n.room small)
+          (added l.place c.bits-bits.result c.send.result l.out n.room small l.invariant.below);
     }
 
 pub loop-i-preserved : goal.loop-i-preserved
 loop-i-preserved g c =
     let b = c.args.self.now in
-    let em = c.bits-bits.ensures ∙ ap (λ z. z.bits) c.width.ensures ∙ c.cell-cell.ensures in
-    let t = next_fits _ b.size b.count c.args.x c.loop-i.i c.loop-i.place c.loop-i.left c.loop-i.out c.bits-bits.result b.least b.fits b.number c.loop-i-test.true em c.loop-i.invariant in
+    let l = c.loop-i in
     let same = c.bits-bits.ensures ∙ ap (λ z. z.bits) c.width.ensures in
+    let n = next b _ c.args.x l.i l.place l.left l.out c.bits-bits.result _ c.loop-i-test.true c.cell-cell.ensures same l.invariant in
     let small : c.send.result < 2 ^ c.bits-bits.result = rw same c.send.ensures.small in
-    rw (shifted b.size c.loop-i.place c.bits-bits.result c.send.result t.1 b.fits small)
-    (rowed_more _ b.size (widths (layout b.size)) c.args.x c.loop-i.i c.loop-i.place c.loop-i.left c.loop-i.out c.bits-bits.result c.send.result
-    c.loop-i.invariant t.0 em (rw same c.send.ensures.is) small)
+    rw (shifted l.place c.bits-bits.result c.send.result n.room small)
+    (rowed_more _ b.size (widths (layout b.size)) c.args.x l.i l.place l.left l.out c.bits-bits.result c.send.result
+    l.invariant n.here n.width (rw same c.send.ensures.is) small)
 
 pub returns : goal.returns
 returns g c =
     let b = c.args.self.now in
-    let long = length_widths b.size (layout b.size) (layout_cut b.size b.least b.fits) in
-    let all : length (widths (layout b.size)) ≤ c.loop-i.i = omega (arith, long, b.number, c.loop-i-test.false) in
-    let done = rowed_end _ b.size (widths (layout b.size)) c.args.x c.loop-i.i c.loop-i.place c.loop-i.left c.loop-i.out c.loop-i.invariant all in
+    let l = c.loop-i in
+    let cut = layout_cut b.size b.least b.fits in
+    let long = length_widths b.size (layout b.size) cut in
+    let all : length (widths (layout b.size)) ≤ l.i = omega (arith, long, b.number, c.loop-i-test.false) in
+    let done = rowed_end _ b.size (widths (layout b.size)) c.args.x l.i l.place l.left l.out l.invariant all in
     record {
       is = done.0;
       small = done.1;
-      undone = rows_undone b.size (layout b.size) (layout_cut b.size b.least b.fits) _ _ (g.met.K.BoxKind.boxed c.args.kind.now);
+      undone = rows_undone b.size (layout b.size) cut _ _ (g.met.K.BoxKind.boxed c.args.kind.now);
     }
