@@ -53,7 +53,6 @@ impl Width {
     }
 
     // a - b, wrapped.
-    #[tactic(auto, using(crate::proofs::Words::taken))]
     pub fn sub(self, a: u64, b: u64) -> u64
         ensures { Taken self.bits a b result }
     {
@@ -69,7 +68,6 @@ impl Width {
     }
 
     // The bits of x moved down by k places; those that pass the end come round.
-    #[tactic(auto, using(crate::proofs::Words::turns_right))]
     pub fn rotate_right(self, x: u64, k: u32) -> u64
         ensures { TurnedRight self.bits k x result }
     {

@@ -27,3 +27,5 @@ ones_small f k a r e = rw e (ones_lt f.width f.low (tested f).small (le_of_lt (t
 
 pub times_small : (f : Field) (a b r : ℕ) → a < 2 ^ f.width → r ≡ product f.width a b → r < 2 ^ (f.width + f.width)
 times_small f a b r h e = rw e (product_below f.width f.width a b h)
+
+pub ruleset smalls = (times_small, mul_small, square_small, squared_small, ones_small)

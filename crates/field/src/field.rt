@@ -132,7 +132,7 @@ impl Field {
     }
 
     // The product in the field.
-    #[tactic(auto, using(crate::proofs::Values::times_small))]
+    #[tactic(auto, using(crate::proofs::Values::smalls))]
     fn product(self, a: u64, b: u64) -> u64
         requires a_within { a < 2 ^ self.width }
         requires b_within { b < 2 ^ self.width }
@@ -159,7 +159,7 @@ impl Field {
     }
 
     // a squared k times.
-    #[tactic(auto, using(crate::proofs::Values::square_small, crate::proofs::Values::squared_small))]
+    #[tactic(auto, using(crate::proofs::Values::smalls))]
     fn squared(self, a: u64, k: u32) -> u64
         requires within { a < 2 ^ self.width }
         ensures { result ≡ squared self.width self.low k a }
@@ -173,7 +173,7 @@ impl Field {
 
     // a^(2^k - 1), by an addition chain: an exponent of k ones is half of them moved up by as many places and the half
     // again, and one more where k is odd.
-    #[tactic(auto, using(crate::proofs::Values::mul_small, crate::proofs::Values::square_small, crate::proofs::Values::squared_small, crate::proofs::Values::ones_small))]
+    #[tactic(auto, using(crate::proofs::Values::smalls))]
     fn ones(self, a: u64, k: u32) -> u64
         requires within { a < 2 ^ self.width }
         ensures is { result ≡ ones self.width self.low k a }
@@ -203,7 +203,7 @@ impl Field {
     }
 
     // The inverse of a box value, the lowest bits of a, and 0 for 0.
-    #[tactic(auto, using(crate::proofs::Values::ones_small))]
+    #[tactic(auto, using(crate::proofs::Values::smalls))]
     pub fn inverse(self, a: u64) -> u64
         ensures is { result ≡ inverse self.width self.low (a % 2 ^ self.width) }
         ensures inverts { IsInverse self.width self.low (a % 2 ^ self.width) result }
