@@ -1,7 +1,6 @@
 -- Orders of the bits of a number. An order of n bits is a list of n places, and moves bit i to the place that the
 -- list has at i.
 use Rattle.std.specs.Prelude.{◌≡◌, ℕ, ◌+◌, ◌*◌, ◌/◌, ◌%◌, ◌^◌, ◌<◌, Bool, true, false, cond, not, ◌||◌, List, [], ◌∷◌, length, take, ◌==◌, ◌≢◌, nat_lt, slice_index}
-use Rattle.bits.specs.declared.width.Width.{Width}
 use Rattle.bits.specs.Bits.{bit}
 
 -- As many entries as bits, each below n, and entries at different places differ.
@@ -9,15 +8,6 @@ pub record IsOrder (n : ℕ) (R : List ℕ) : Type 0 where
   pub size : length R ≡ n
   pub below : (i : ℕ) → i < n → slice_index R i < n
   pub apart : (i j : ℕ) → i < j → j < n → slice_index R i ≢ slice_index R j
-
--- What contracts see of an order: its size, and the 64 places that it is given as.
-pub record Listed : Type 0 where
-  pub size : Width
-  pub places : List ℕ
-
--- The places that count.
-abbrev pub order : Listed → List ℕ
-order o = take o.size.bits o.places
 
 -- Every bit of x put to its place.
 unfoldable pub moved : List ℕ → ℕ → ℕ

@@ -1,29 +1,17 @@
 // Orders of the bits of a number.
-ghost use Rattle.std.specs.Prelude.{◌≡◌, ◌*◌, ◌%◌, ◌^◌, ◌<◌, take, MatchOption, MatchResult};
+ghost use Rattle.std.specs.Prelude.{◌≡◌, ◌*◌, ◌%◌, ◌^◌, ◌<◌, length, take, MatchOption, MatchResult, slice_index};
 ghost use Rattle.bits.specs.Bits.{bit};
-ghost use Rattle.bits.specs.Orders.{IsOrder, order, Applied, Undone, FirstFault, Sound, among, fault_at};
+ghost use Rattle.bits.specs.Orders.{IsOrder, Applied, Undone, FirstFault, Sound, among, fault_at};
 
 use crate::width::Width;
-use std::marker::Model;
 
 // Bit i of a number moves to bit places[i]. The places after the size do not count and are 0.
 #[derive(Clone, Copy)]
 pub struct Order {
     size: Width,
     places: [u8; 64],
-}
-
-impl Model for Order {
-    ghost use Rattle.std.specs.Prelude.{◌≡◌, length};
-    ghost use Rattle.bits.specs.Orders.{Listed, Sound};
-
-    ghost Value = { Listed };
-
-    ghost view = { λ o. record { size = o.size; places = o.places } };
-
-    ghost invariant = { λ o. (length o.places ≡ 64) × Sound o.size.bits o.places };
-
-    ghost inverse = { λ l. record { size = l.size; places = l.places } };
+    ghost long: { length places ≡ 64 },
+    ghost sound: { Sound size.bits places },
 }
 
 // The first place that is too large, stands before too, or is not 0 after the size.
@@ -33,6 +21,8 @@ pub struct NotAnOrder {
 }
 
 impl Order {
+    ghost use Rattle.bits.specs.Listed.{order};
+
     pub fn new(size: Width, places: [u8; 64]) -> Result<Order, NotAnOrder>
         ensures { MatchResult result (λ o. (o.size ≡ size) × (o.places ≡ places) × Sound size.bits places × IsOrder size.bits (take size.bits places)) (λ e. FirstFault size.bits places e.place) }
     {
@@ -49,13 +39,13 @@ impl Order {
     }
 
     pub fn places(&self) -> &[u8; 64]
-        ensures is { result.now ≡ self.now.places }
-        ensures sound { Sound self.now.size.bits result.now }
+        ensures { result.now ≡ self.now.places }
     {
         &self.places
     }
 
-    // x with each bit moved to its place. Of x the lowest bits count, as many as the size says.
+    // x with each bit moved to its place. Of x the lowest bits count, as many as the size says. Both ways are a chain of
+    // their own: one for both would take a closure that swaps `from` and `to`, and be no shorter.
     pub fn apply(&self, x: u64) -> u64
         ensures { Applied self.now.size.bits (order self.now) x result }
     {
