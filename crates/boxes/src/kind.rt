@@ -5,17 +5,21 @@ ghost use Rattle.boxes.specs.Kinds.{flex_boxed, cpa_boxed, turned_boxed};
 
 use crate::cell::Cell;
 
-// A kind of box: what it does to a value, by the place of its lowest bit and its width, and its way back.
+// A kind of box: what it does to a value, by the place of its lowest bit and its width. A cell and its place meet only in
+// a row's loop, so a pair of them would be put together there and taken apart in each kind.
 pub trait BoxKind {
     ghost does: { Self → ℕ → ℕ → ℕ → ℕ };
-
-    ghost undoes: { Self → ℕ → ℕ → ℕ → ℕ };
 
     // The value in the lowest bits of x, sent through the box.
     fn send(&self, cell: Cell, place: u32, x: u64) -> u64
         requires near { place < 64 }
         ensures is { result ≡ does self.now place cell.width.bits (x % 2 ^ cell.width.bits) }
         ensures small { result < 2 ^ cell.width.bits };
+}
+
+// A kind of box that has a way back.
+pub trait Invertible: BoxKind {
+    ghost undoes: { Self → ℕ → ℕ → ℕ → ℕ };
 
     // The value in the lowest bits of y, sent back through the box.
     fn back(&self, cell: Cell, place: u32, y: u64) -> u64
@@ -24,7 +28,7 @@ pub trait BoxKind {
         ensures small { result < 2 ^ cell.width.bits };
 
     // Both ways keep the values of a box, and undo each other on them.
-    ghost boxed: { (s : Self) → Boxed (does s) (undoes s) };
+    ghost inverts: { (s : Self) → Boxed (Self.does s) (undoes s) };
 }
 
 // A Flex box, which is its own way back.
@@ -34,13 +38,15 @@ pub struct Flex;
 impl BoxKind for Flex {
     ghost does = { λ s. flex_box };
 
-    ghost undoes = { λ s. flex_box };
-
-    ghost boxed = { λ s. flex_boxed };
-
     fn send(&self, cell: Cell, place: u32, x: u64) -> u64 {
         cell.invert(x)
     }
+}
+
+impl Invertible for Flex {
+    ghost undoes = { λ s. flex_box };
+
+    ghost inverts = { λ s. flex_boxed };
 
     fn back(&self, cell: Cell, place: u32, y: u64) -> u64 {
         self.send(cell, place, y)
@@ -57,15 +63,17 @@ pub struct Cpa {
 impl BoxKind for Cpa {
     ghost does = { λ s. cpa_box s.r0 s.r1 };
 
-    ghost undoes = { λ s. cpa_box_back s.r0 s.r1 };
-
-    ghost boxed = { λ s. cpa_boxed s.r0 s.r1 };
-
     fn send(&self, cell: Cell, place: u32, x: u64) -> u64 {
         let Cpa { r0, r1 } = self.at(place);
         let width = cell.width();
         width.rotate_left(width.add(cell.invert(x ^ r0), r1), 2)
     }
+}
+
+impl Invertible for Cpa {
+    ghost undoes = { λ s. cpa_box_back s.r0 s.r1 };
+
+    ghost inverts = { λ s. cpa_boxed s.r0 s.r1 };
 
     fn back(&self, cell: Cell, place: u32, y: u64) -> u64 {
         let Cpa { r0, r1 } = self.at(place);
@@ -91,16 +99,18 @@ impl Cpa {
 #[derive(Clone, Copy)]
 pub struct Turned<K>(pub K);
 
-impl<K: BoxKind> BoxKind for Turned<K> {
+impl<K: Invertible> BoxKind for Turned<K> {
     ghost does = { λ s. K.undoes s.0 };
-
-    ghost undoes = { λ s. K.does s.0 };
-
-    ghost boxed = { λ s. turned_boxed (K.does s.0) (K.undoes s.0) (K.boxed s.0) };
 
     fn send(&self, cell: Cell, place: u32, x: u64) -> u64 {
         self.0.back(cell, place, x)
     }
+}
+
+impl<K: Invertible> Invertible for Turned<K> {
+    ghost undoes = { λ s. K.does s.0 };
+
+    ghost inverts = { λ s. turned_boxed (K.does s.0) (K.undoes s.0) (K.inverts s.0) };
 
     fn back(&self, cell: Cell, place: u32, y: u64) -> u64 {
         self.0.send(cell, place, y)

@@ -5,7 +5,7 @@ ghost use Rattle.boxes.specs.Layouts.{layout, widths};
 ghost use Rattle.field.specs.Widths.{low_part};
 
 use crate::cell::Cell;
-use crate::kind::BoxKind;
+use crate::kind::{BoxKind, Invertible, Turned};
 use crate::layout::boxes_of;
 use crate::shape::Shape;
 
@@ -48,11 +48,10 @@ impl Boxes {
         if i == 0 { self.last } else { self.wide }
     }
 
-    // A number sent through the boxes, which the ways back undo. Of x the lowest bits count, as many as the boxes have.
+    // A number sent through the boxes. Of x the lowest bits count, as many as the boxes have.
     pub fn send<K: BoxKind>(&self, kind: &K, x: u64) -> u64
-        ensures is { result ≡ layer (K.BoxKind.does kind.now) 0 (widths (layout self.now.size)) x }
+        ensures is { result ≡ layer (K.does kind.now) 0 (widths (layout self.now.size)) x }
         ensures small { result < 2 ^ self.now.size }
-        ensures undone { let ms = widths (layout self.now.size) in Undone self.now.size (layer (K.does kind.now) 0 ms) (layer (K.undoes kind.now) 0 ms) }
     {
         let mut out = 0;
         let mut left = x;
@@ -65,6 +64,15 @@ impl Boxes {
             place += bits;
         }
         out
+    }
+
+    // A number sent back through the boxes, which undoes `send`. Of y the lowest bits count.
+    pub fn back<K: Invertible + Copy>(&self, kind: &K, y: u64) -> u64
+        ensures is { result ≡ layer (K.undoes kind.now) 0 (widths (layout self.now.size)) y }
+        ensures small { result < 2 ^ self.now.size }
+        ensures undone { let ms = widths (layout self.now.size) in Undone self.now.size (layer (K.does kind.now) 0 ms) (layer (K.undoes kind.now) 0 ms) }
+    {
+        self.send(&Turned(*kind), y)
     }
 }
 

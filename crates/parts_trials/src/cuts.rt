@@ -112,6 +112,7 @@ fn rows_there_and_back(rt: HostRuntime) -> Result<(), Fail> {
             assert_eq!(rt; boxes.send(&Flex, boxes.send(&Flex, x)), x);
             let code = boxes.send(&Cpa { r0, r1 }, x);
             assert_eq!(rt; boxes.send(&Turned(Cpa { r0, r1 }), code), x);
+            assert_eq!(rt; boxes.back(&Cpa { r0, r1 }, code), x);
         }
     }
     Ok(())

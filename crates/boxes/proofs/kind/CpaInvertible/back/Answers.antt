@@ -3,7 +3,7 @@ use lib.Bits.{xor_lt}
 use Rattle.std.proofs.lemmas.Nat.{pow_pos, mod_below}
 use Rattle.bits.specs.Words.{less, turned_right}
 use Rattle.boxes.proofs.Sent.{sent_back_is}
-use Rattle.boxes.proofs.kind.CpaBoxKind.back.Goals as goal
+use Rattle.boxes.proofs.kind.CpaInvertible.back.Goals as goal
 
 pub returns : goal.returns
 returns c =

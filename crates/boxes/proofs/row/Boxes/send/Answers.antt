@@ -1,7 +1,7 @@
 use Rattle.std.proofs.Common.{◌^◌, ◌<◌, ◌≤◌, length, ap, ◌∙◌, arith}
 use Rattle.boxes.specs.Layouts.{layout, widths}
 use Rattle.boxes.proofs.Layouts.{layout_cut}
-use Rattle.boxes.proofs.Rows.{next, rowed_start, rowed_more, rowed_end, rows_undone, length_widths, bits_widths, shifted, added}
+use Rattle.boxes.proofs.Rows.{next, rowed_start, rowed_more, rowed_end, length_widths, bits_widths, shifted, added}
 use Rattle.boxes.proofs.row.Boxes.send.Goals as goal
 
 pub loop-i-init : goal.loop-i-init
@@ -53,8 +53,4 @@ returns g c =
     let long = length_widths b.size (layout b.size) cut in
     let all : length (widths (layout b.size)) ≤ l.i = omega (arith, long, b.number, c.loop-i-test.false) in
     let done = rowed_end _ b.size (widths (layout b.size)) c.args.x l.i l.place l.left l.out l.invariant all in
-    record {
-      is = done.0;
-      small = done.1;
-      undone = rows_undone b.size (layout b.size) cut _ _ (g.met.K.BoxKind.boxed c.args.kind.now);
-    }
+    record { is = done.0; small = done.1 }
