@@ -29,7 +29,7 @@ impl Error for PileError {}
 impl<T: Drop> From<AllocFailed<T>> for PileError {
     ghost from_gives = { λ _ e. e ≡ NoMemory };
 
-    fn from(_failed: AllocFailed<T>) -> PileError {
-        PileError::NoMemory
+    fn from(_failed: AllocFailed<T>) -> Self {
+        Self::NoMemory
     }
 }

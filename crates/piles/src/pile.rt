@@ -49,7 +49,8 @@ impl<C: Coding + Drop> Pile<C> {
         self.height
     }
 
-    // This pile, then another.
+    // This pile, then another. It and the two below lay their layer on the tree in the same three lines: the layer as a
+    // closure would need the heap and what may be refused said in a clause of its own.
     pub fn chain(self, heap: Global, then: Pile<C>) -> Result<Pile<C>, PileError>
         ensures { Stacked (max (height_of self.tree) (height_of then.tree) + 1) result (λ p. ChainMade C.Coding.means C.Coding.lawful self.tree then.tree p.tree) }
     {

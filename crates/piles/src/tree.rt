@@ -79,7 +79,9 @@ impl<C: Coding> Tree<C> {
         }
     }
 
-    // The code of x, or the number whose code is x.
+    // The code of x, or the number whose code is x. The arms of chains and narrowed trees are those codings' own code once
+    // more: no recursion goes through a trait's method, and a closure does not tell which coding it asks, by which the walk
+    // of a narrowed one is shown to end.
     pub(crate) fn sent(&self, way: Way, x: u64) -> Result<u64, AboveTop>
         ensures { result ≡ coded (facing way (tree_meaning C.Coding.means C.Coding.lawful self.now)) x }
     {
@@ -104,8 +106,6 @@ impl<C: Coding> Tree<C> {
                 if x > top {
                     return Err(AboveTop);
                 }
-                // The walk of codings' `Narrowed` once more: a recursion goes through no trait's method, and a closure names
-                // no coding whose orbit ends the walk.
                 let mut y = below.sent(way, x)?;
                 while y > top {
                     y = below.sent(way, y)?;
