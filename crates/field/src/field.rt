@@ -78,8 +78,8 @@ impl Field {
         self.low
     }
 
-    // From here on a value has at most as many bits as the width, and each call asks so: a type of values would carry its field,
-    // and each call would ask in its place that two fields are the same.
+    // The steps below take values of at most so many bits, and each says so: a type of values would carry its field, and
+    // each call would ask in its place that two fields are the same.
 
     // The lowest bits of v, as many as the width has.
     #[tactic(auto, using(std::proofs::lemmas::Nat::and_mask, std::proofs::lemmas::Nat::one_shl))]
