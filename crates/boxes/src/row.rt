@@ -9,7 +9,8 @@ use crate::kind::{BoxKind, Invertible, Turned};
 use crate::layout::boxes_of;
 use crate::shape::Shape;
 
-// `count` boxes that add up to `size` bits: the lowest is `last`, and the others are `wide`.
+// `count` boxes that add up to `size` bits: the lowest is `last`, and the others are `wide`, which is not read where there are
+// none: as an Option it would be asked again at each box.
 #[derive(Clone, Copy)]
 pub struct Boxes {
     size: u32,

@@ -4,7 +4,7 @@ use bits::width::Width;
 use std::process::Abort;
 use std::test::Fail;
 
-// Each of the first `size` bits to itself, and zeros after them.
+// Each of the first `size` bits to itself, and zeros after them, as the trials of drafts have it: the two share no crate.
 fn plain(size: usize) -> [u8; 64] {
     let mut places = [0; 64];
     for (place, bit) in places.iter_mut().zip(0u8..64).take(size) {
