@@ -1,14 +1,16 @@
 -- What a book that keeps a release says of each call: the call's answer is the book's, and the book after the
 -- call keeps what is left.
-use Rattle.std.proofs.Common.{◌≡◌, ℕ, zero, suc, ◌+◌, ◌-◌, ◌<◌, ◌≤◌, Bool, true, false, ◌&&◌, eqb, ltb, leb, List, [], ◌∷◌, ◌++◌, map, length, get_or, take, set, replicate, Ok, Err, Result, sym, refl, ap, ◌∙◌, subst, arith}
+use Rattle.std.proofs.Common.{◌≡◌, ℕ, zero, suc, ◌+◌, ◌-◌, ◌<◌, ◌≤◌, min, Bool, true, false, ◌&&◌, cond, eqb, ltb, leb, List, [], ◌∷◌, ◌++◌, map, length, get_or, take, set, replicate, Ok, Err, Result, sym, refl, ap, ◌∙◌, subst, arith}
 use Rattle.meanings.specs.Meaning.{Meaning, Lawful}
+use Rattle.book.specs.declared.entry.Entry.{Entry}
 use Rattle.book.specs.declared.row.Row.{Row}
 use Rattle.book.specs.Refusals.{ask}
 use Rattle.book.proofs.Asking.{ask_yes, ask_same, ask_ok}
-use Rattle.book.specs.Rows.{Setup, coding_of, within, codes, marked, blank}
-use Rattle.book.specs.Raw.{record_at, stands, count_marks, put_answer, put_memory, put_taken, withdraw_answer, withdraw_memory, show_answer, turn_back_answer, tally_answer}
-use Rattle.book.specs.Book.{BookRow, no_row, row_at, row_stands, withdrawn, count_standing, book_put, after_put, book_withdraw, after_withdraw, entry_code, book_show, book_turn_back, book_tally, record_of, memory_of, Keeps}
+use Rattle.book.specs.Rows.{ColumnMeanings, Setup, coding_of, within, codes, marked, blank}
+use Rattle.book.specs.Raw.{record_at, stands, count_marks, put_answer, put_memory, put_taken, withdraw_answer, withdraw_memory, show_answer, turn_back_answer, tally_answer, entry_coding}
+use Rattle.book.specs.Book.{BookRow, no_row, row_at, row_stands, withdrawn, entry_number, count_standing, book_put, after_put, book_withdraw, after_withdraw, entry_code, book_show, book_turn_back, book_tally, record_of, memory_of, Keeps}
 use Rattle.std.proofs.lemmas.List.{get_or_append_left, get_or-map, set-append_left, set-append_right, take_at, map_push, map-set, length-append, length-map, length-replicate, length_push, length-set, append_assoc}
+use Rattle.std.proofs.lemmas.List.Sums.{sum_by-cons}
 use Rattle.std.proofs.ByRecursion.{All-get_or, All-push, All-set}
 use Rattle.std.proofs.lemmas.Bool.{leb-true, ltb-true, eqb-true, eq-eqb, and_parts}
 use Rattle.meanings.proofs.Lawful.{clear_lawful}
@@ -48,11 +50,11 @@ stands_same s b i =
 -- as many marks as rows that stand
 count_map : (s : Setup) (b : List BookRow) → count_marks (map (record_of s) b) ≡ count_standing b
 count_map s [] = refl
-count_map s (r ∷ rs) = go (count_map s rs) r.numbers r.standing
-  where
-    go : count_marks (map (record_of s) rs) ≡ count_standing rs → (ns : List ℕ) (t : Bool) → count_marks (record_of s (record { numbers = ns; standing = t }) ∷ map (record_of s) rs) ≡ count_standing (record { numbers = ns; standing = t } ∷ rs)
-    go ih ns true = ap suc ih
-    go ih ns false = ih
+count_map s (r ∷ rs) =
+    sum_by-cons (λ row. cond row.standing 1 0) (record_of s r) (map (record_of s) rs)
+    ∙ ap (λ t. cond t 1 0 + count_marks (map (record_of s) rs)) (record_standing s r.numbers r.standing)
+    ∙ ap (λ n. cond r.standing 1 0 + n) (count_map s rs)
+    ∙ sym (sum_by-cons (λ row. cond row.standing 1 0) r rs)
 
 -- the marks among the places taken
 count_same : (s : Setup) (b : List BookRow) → count_marks (take (length b) (memory_of s b)) ≡ count_standing b
@@ -64,11 +66,11 @@ replicate_set n m i x y e z = rw (e, z)
 
 -- a put's record, written at the next place
 memory_put : (s : Setup) (b : List BookRow) (xs : List ℕ) → length b < s.records
-    → set (memory_of s b) (length b) (marked (codes s s.roles xs)) ≡ memory_of s (b ++ record { numbers = xs; standing = true } ∷ [])
+    → set (memory_of s b) (length b) (marked (codes s.codings s.roles xs)) ≡ memory_of s (b ++ record { numbers = xs; standing = true } ∷ [])
 memory_put s b xs h =
     let row : BookRow = record { numbers = xs; standing = true } in
     let front = map (record_of s) b in
-    let new : Row = marked (codes s s.roles xs) in
+    let new : Row = marked (codes s.codings s.roles xs) in
     let left : ℕ = s.records - length (b ++ row ∷ []) in
     let l = length_push b row in
     set-append_right front (replicate (s.records - length b) blank) (length b) (length b) new (length-map b (record_of s)) (omega arith)
@@ -87,33 +89,33 @@ memory_withdraw s b j ns h =
     ∙ ap (λ n. map (record_of s) (set b j row) ++ replicate (s.records - n) blank) (sym (length-set b j row))
 
 -- each number of a row is within the top of its column's coding
-pub within_at : (s : Setup) (rs : List Role) (xs : List ℕ) (c : ℕ) → c < length rs → length xs ≡ length rs → within s rs xs ≡ true → get_or xs c 0 ≤ (coding_of s (get_or rs c Clear)).top
-within_at s [] xs c h l w = absurd (omega arith)
-within_at s (r ∷ rs) [] c h l w = absurd (omega arith)
-within_at s (r ∷ rs) (x ∷ xs) zero h l w = leb-true x (coding_of s r).top (and_parts (leb x (coding_of s r).top) (within s rs xs) w).0
-within_at s (r ∷ rs) (x ∷ xs) (suc c) h l w = within_at s rs xs c (omega arith) (omega arith) (and_parts (leb x (coding_of s r).top) (within s rs xs) w).1
+pub within_at : (m : ColumnMeanings) (rs : List Role) (xs : List ℕ) (c : ℕ) → c < length rs → length xs ≡ length rs → within m rs xs ≡ true → get_or xs c 0 ≤ (coding_of m (get_or rs c Clear)).top
+within_at m [] xs c h l w = absurd (omega arith)
+within_at m (r ∷ rs) [] c h l w = absurd (omega arith)
+within_at m (r ∷ rs) (x ∷ xs) zero h l w = leb-true x (coding_of m r).top (and_parts (leb x (coding_of m r).top) (within m rs xs) w).0
+within_at m (r ∷ rs) (x ∷ xs) (suc c) h l w = within_at m rs xs c (omega arith) (omega arith) (and_parts (leb x (coding_of m r).top) (within m rs xs) w).1
 
 -- each code of a row is its column's code of its number
-codes_at : (s : Setup) (rs : List Role) (xs : List ℕ) (c : ℕ) → c < length rs → length xs ≡ length rs → get_or (codes s rs xs) c 0 ≡ (coding_of s (get_or rs c Clear)).rule (get_or xs c 0)
-codes_at s [] xs c h l = absurd (omega arith)
-codes_at s (r ∷ rs) [] c h l = absurd (omega arith)
-codes_at s (r ∷ rs) (x ∷ xs) zero h l = refl
-codes_at s (r ∷ rs) (x ∷ xs) (suc c) h l = codes_at s rs xs c (omega arith) (omega arith)
+codes_at : (m : ColumnMeanings) (rs : List Role) (xs : List ℕ) (c : ℕ) → c < length rs → length xs ≡ length rs → get_or (codes m rs xs) c 0 ≡ (coding_of m (get_or rs c Clear)).rule (get_or xs c 0)
+codes_at m [] xs c h l = absurd (omega arith)
+codes_at m (r ∷ rs) [] c h l = absurd (omega arith)
+codes_at m (r ∷ rs) (x ∷ xs) zero h l = refl
+codes_at m (r ∷ rs) (x ∷ xs) (suc c) h l = codes_at m rs xs c (omega arith) (omega arith)
 
--- as many codes as columns
-length_codes : (s : Setup) (rs : List Role) (xs : List ℕ) → length xs ≡ length rs → length (codes s rs xs) ≡ length rs
-length_codes s [] xs l = refl
-length_codes s (r ∷ rs) [] l = absurd (omega arith)
-length_codes s (r ∷ rs) (x ∷ xs) l = ap suc (length_codes s rs xs (omega arith))
+-- as many codes as there are columns with a number
+pub length_codes : (m : ColumnMeanings) (rs : List Role) (xs : List ℕ) → length (codes m rs xs) ≡ min (length rs) (length xs)
+length_codes m [] xs = omega arith
+length_codes m (r ∷ rs) [] = omega arith
+length_codes m (r ∷ rs) (x ∷ xs) = omega (arith, length_codes m rs xs)
 
--- each column's coding is lawful
-pub coding_lawful : (s : Setup) → Lawful s.yarn → Lawful s.hands → (r : Role) → Lawful (coding_of s r)
-coding_lawful s ly lh Yarn = ly
-coding_lawful s ly lh Hands = lh
-coding_lawful s ly lh Clear = clear_lawful _
+-- where both codings are lawful, each column's is
+pub coding_lawful : (m : ColumnMeanings) → Lawful m.yarn → Lawful m.hands → (r : Role) → Lawful (coding_of m r)
+coding_lawful m ly lh Yarn = ly
+coding_lawful m ly lh Hands = lh
+coding_lawful m ly lh Clear = clear_lawful _
 
 -- the record of a standing row
-record_yes : (s : Setup) (ns : List ℕ) (t : Bool) → t ≡ true → record_of s (record { numbers = ns; standing = t }) ≡ marked (codes s s.roles ns)
+record_yes : (s : Setup) (ns : List ℕ) (t : Bool) → t ≡ true → record_of s (record { numbers = ns; standing = t }) ≡ marked (codes s.codings s.roles ns)
 record_yes s ns true h = refl
 record_yes s ns false h = let z : ◌≡◌ {A = ℕ} 0 1 = cc in absurd (omega arith)
 
@@ -127,32 +129,35 @@ row_stands_parts b i h =
     (omega arith, q.1)
 
 -- what each row of a book that keeps a release satisfies
-abbrev Fit : Setup → BookRow → Type 0
-Fit s r = (length r.numbers ≡ length s.roles) × (within s s.roles r.numbers ≡ true)
+abbrev pub Fit : Setup → BookRow → Type 0
+Fit s r = (length r.numbers ≡ length s.roles) × (within s.codings s.roles r.numbers ≡ true)
+
+pub fit_at : (s : Setup) (taken : ℕ) (memory : List Row) (b : List BookRow) → Keeps s taken memory b → (i : ℕ) → row_stands b i ≡ true → Fit s (row_at b i)
+fit_at s taken memory b k i st = All-get_or (Fit s) b (i - 1) no_row (row_stands_parts b i st).0 k.rows
 
 -- what holds of the book's own places and row memory holds of those of the release that it keeps
 kept_at : (s : Setup) (taken : ℕ) (memory : List Row) (b : List BookRow) → Keeps s taken memory b → (P : ℕ → List Row → Type 0) → P (length b) (memory_of s b) → P taken memory
 kept_at s taken memory b k P p = subst (λ t. P t memory) (sym k.places) (subst (λ m. P (length b) m) (sym k.held) p)
 
 -- what one row record has at a column of a standing row
-entry_at : (s : Setup) (b : List BookRow) (i column : ℕ) → length (row_at b i).numbers ≡ length s.roles → row_stands b i ≡ true → column < length s.roles
-    → get_or (record_at (memory_of s b) i).numbers column 0 ≡ entry_code s b i column
-entry_at s b i column l st h =
-    let p = row_stands_parts b i st in
-    let ns = (row_at b i).numbers in
-    let n = length_codes s s.roles ns l in
-    ap (λ r. get_or r.numbers column 0) (memory_at s b (i - 1) p.0 ∙ record_yes s ns (row_at b i).standing p.1)
-    ∙ get_or_append_left (codes s s.roles ns) (replicate (8 - length (codes s s.roles ns)) 0) 0 column (omega arith)
-    ∙ codes_at s s.roles ns column h l
+entry_at : (s : Setup) (b : List BookRow) (e : Entry) → length (row_at b e.row).numbers ≡ length s.roles → row_stands b e.row ≡ true → e.column < length s.roles
+    → get_or (record_at (memory_of s b) e.row).numbers e.column 0 ≡ entry_code s b e
+entry_at s b e l st h =
+    let p = row_stands_parts b e.row st in
+    let ns = (row_at b e.row).numbers in
+    let n = length_codes s.codings s.roles ns in
+    ap (λ r. get_or r.numbers e.column 0) (memory_at s b (e.row - 1) p.0 ∙ record_yes s ns (row_at b e.row).standing p.1)
+    ∙ get_or_append_left (codes s.codings s.roles ns) (replicate (8 - length (codes s.codings s.roles ns)) 0) 0 e.column (omega arith)
+    ∙ codes_at s.codings s.roles ns e.column h l
 
 -- the book with one more row keeps the release with one more record
 keeps_put : (s : Setup) (b : List BookRow) (xs : List ℕ) → Keeps s (length b) (memory_of s b) b → (n : ℕ) → book_put s b xs ≡ Ok n
-    → Keeps s n (set (memory_of s b) (length b) (marked (codes s s.roles xs))) (b ++ record { numbers = xs; standing = true } ∷ [])
+    → Keeps s n (set (memory_of s b) (length b) (marked (codes s.codings s.roles xs))) (b ++ record { numbers = xs; standing = true } ∷ [])
 keeps_put s b xs k n e =
     let row : BookRow = record { numbers = xs; standing = true } in
     let p = ask_ok (eqb (length xs) (length s.roles)) _ _ n e in
     let q = ask_ok (ltb (length b) s.records) _ _ n p.1 in
-    let r = ask_ok (within s s.roles xs) _ _ n q.1 in
+    let r = ask_ok (within s.codings s.roles xs) _ _ n q.1 in
     let free = ltb-true (length b) s.records q.0 in
     let l = length_push b row in
     let m : length b + 1 ≡ n = cc r.1 in
@@ -217,7 +222,7 @@ module _ (s : Setup) (taken : ℕ) (memory : List Row) (b : List BookRow) (k : K
       own = keeps_own s taken memory b k
 
       new : List Row
-      new = set (memory_of s b) (length b) (marked (codes s s.roles xs))
+      new = set (memory_of s b) (length b) (marked (codes s.codings s.roles xs))
 
       same : put_answer s (length b) (memory_of s b) xs ≡ book_put s b xs
       same = ask_yes (eqb (length (memory_of s b)) s.records) _ _ (length_asked s b k.fits)
@@ -242,35 +247,35 @@ module _ (s : Setup) (taken : ℕ) (memory : List Row) (b : List BookRow) (k : K
           ask_yes (eqb (length (memory_of s b)) s.records) _ _ (length_asked s b k.fits)
           ∙ ap (λ t. ask t NotStanding (Ok tt)) (stands_same s b i)
 
-  pub show_kept : (i column : ℕ) → show_answer s taken memory i column ≡ book_show s b i column
-  show_kept i column =
-      kept_at s taken memory b k (λ t m. show_answer s t m i column ≡ book_show s b i column)
+  pub show_kept : (e : Entry) → show_answer s taken memory e ≡ book_show s b e
+  show_kept e =
+      kept_at s taken memory b k (λ t m. show_answer s t m e ≡ book_show s b e)
       (ask_yes (eqb (length (memory_of s b)) s.records) _ _ (length_asked s b k.fits)
-      ∙ ap (λ t. ask t NotStanding (ask (ltb column (length s.roles)) NoSuchColumn (Ok code))) (stands_same s b i)
-      ∙ ask_same (row_stands b i) NotStanding _ _ (λ st. ask_same (ltb column (length s.roles)) NoSuchColumn _ _ (λ lt.
-      let fit = All-get_or (Fit s) b (i - 1) no_row (row_stands_parts b i st).0 k.rows in
-      ap (λ n. Ok n) (entry_at s b i column fit.0 st (ltb-true column (length s.roles) lt)))))
+      ∙ ap (λ t. ask t NotStanding (ask (ltb e.column (length s.roles)) NoSuchColumn (Ok code))) (stands_same s b e.row)
+      ∙ ask_same (row_stands b e.row) NotStanding _ _ (λ st. ask_same (ltb e.column (length s.roles)) NoSuchColumn _ _ (λ lt.
+      let fit = fit_at s taken memory b k e.row st in
+      ap (λ n. Ok n) (entry_at s b e fit.0 st (ltb-true e.column (length s.roles) lt)))))
     where
       code : ℕ
-      code = get_or (record_at (memory_of s b) i).numbers column 0
+      code = get_or (record_at (memory_of s b) e.row).numbers e.column 0
 
-  pub turn_back_kept : Lawful s.yarn → Lawful s.hands → (i column : ℕ) → turn_back_answer s taken memory i column ≡ book_turn_back s b i column
-  turn_back_kept ly lh i column =
-      kept_at s taken memory b k (λ t m. turn_back_answer s t m i column ≡ book_turn_back s b i column)
+  pub turn_back_kept : ((r : Role) → Lawful (coding_of s.codings r)) → (e : Entry) → turn_back_answer s taken memory e ≡ book_turn_back s b e
+  turn_back_kept lawful e =
+      kept_at s taken memory b k (λ t m. turn_back_answer s t m e ≡ book_turn_back s b e)
       (ask_yes (eqb (length (memory_of s b)) s.records) _ _ (length_asked s b k.fits)
-      ∙ ap (λ t. ask t NotStanding (ask (ltb column (length s.roles)) NoSuchColumn (turned code))) (stands_same s b i)
-      ∙ ask_same (row_stands b i) NotStanding _ _ (λ st. ask_same (ltb column (length s.roles)) NoSuchColumn _ _ (λ lt.
-      let fit = All-get_or (Fit s) b (i - 1) no_row (row_stands_parts b i st).0 k.rows in
-      let h = ltb-true column (length s.roles) lt in
-      let low = within_at s s.roles (row_at b i).numbers column h fit.0 fit.1 in
-      ap turned (entry_at s b i column fit.0 st h)
-      ∙ ap (λ n. ask (leb (entry_code s b i column) coding.top) AboveTop (Ok n)) ((coding_lawful s ly lh (get_or s.roles column Clear)).undoes (get_or (row_at b i).numbers column 0) low))))
+      ∙ ap (λ t. ask t NotStanding (ask (ltb e.column (length s.roles)) NoSuchColumn (turned code))) (stands_same s b e.row)
+      ∙ ask_same (row_stands b e.row) NotStanding _ _ (λ st. ask_same (ltb e.column (length s.roles)) NoSuchColumn _ _ (λ lt.
+      let fit = fit_at s taken memory b k e.row st in
+      let h = ltb-true e.column (length s.roles) lt in
+      let low = within_at s.codings s.roles (row_at b e.row).numbers e.column h fit.0 fit.1 in
+      ap turned (entry_at s b e fit.0 st h)
+      ∙ ap (λ n. ask (leb (entry_code s b e) coding.top) AboveTop (Ok n)) ((lawful (get_or s.roles e.column Clear)).undoes (entry_number b e) low))))
     where
       code : ℕ
-      code = get_or (record_at (memory_of s b) i).numbers column 0
+      code = get_or (record_at (memory_of s b) e.row).numbers e.column 0
 
       coding : Meaning
-      coding = coding_of s (get_or s.roles column Clear)
+      coding = entry_coding s e
 
       turned : ℕ → Result ℕ Refusal
       turned n = ask (leb n coding.top) AboveTop (Ok (coding.back n))
@@ -279,4 +284,4 @@ module _ (s : Setup) (taken : ℕ) (memory : List Row) (b : List BookRow) (k : K
   tally_kept =
       kept_at s taken memory b k (λ t m. tally_answer s t m ≡ book_tally s b)
       (ask_yes (eqb (length (memory_of s b)) s.records) _ _ (length_asked s b k.fits)
-      ∙ ap (λ n. Ok (length b, n)) (count_same s b))
+      ∙ ap (λ n. Ok (record { taken = length b; standing = n })) (count_same s b))

@@ -1,12 +1,14 @@
 -- The book of a release: the rows that were put, by their numbers, standing or withdrawn.
-use Rattle.std.specs.Prelude.{◌≡◌, ℕ, suc, ◌+◌, ◌-◌, ◌≤◌, Bool, true, false, ◌&&◌, List, [], ◌∷◌, ◌++◌, map, length, replicate, Ok, Err, Result, ◌==◌, nat_le, nat_lt, slice_index, slice_index_or, slice_set}
+use Rattle.std.specs.Prelude.{◌≡◌, ℕ, ◌+◌, ◌-◌, ◌≤◌, Bool, true, false, ◌&&◌, List, [], ◌∷◌, ◌++◌, map, length, replicate, count_by, Ok, Err, Result, ◌==◌, nat_le, nat_lt, slice_index, slice_index_or, slice_set}
 use Rattle.std.specs.List.{AllByRecursion}
+use Rattle.book.specs.declared.entry.Entry.{Entry}
 use Rattle.book.specs.declared.refusal.Refusal.{Refusal}
 use Rattle.book.specs.declared.refusal.Refusal.TheVariants.{AboveTop, NumberCount, NoPlaceFree, NotStanding, NoSuchColumn}
-use Rattle.book.specs.declared.role.Role.TheVariants.{Clear}
 use Rattle.book.specs.declared.row.Row.{Row}
+use Rattle.book.specs.declared.tally.Tally.{Tally}
 use Rattle.book.specs.Refusals.{ask}
-use Rattle.book.specs.Rows.{Setup, coding_of, within, codes, marked, blank}
+use Rattle.book.specs.Raw.{entry_coding}
+use Rattle.book.specs.Rows.{Setup, within, codes, marked, blank}
 
 pub record BookRow : Type 0 where
   pub numbers : List ℕ
@@ -22,19 +24,22 @@ row_at b i = slice_index_or b (i - 1) no_row
 abbrev pub row_stands : List BookRow → ℕ → Bool
 row_stands b i = nat_lt 0 i && (nat_le i (length b) && (row_at b i).standing)
 
+-- The number of an entry.
+abbrev pub entry_number : List BookRow → Entry → ℕ
+entry_number b e = slice_index (row_at b e.row).numbers e.column
+
 abbrev pub withdrawn : BookRow → BookRow
 withdrawn r = record { numbers = r.numbers; standing = false }
 
 abbrev pub count_standing : List BookRow → ℕ
-count_standing [] = 0
-count_standing (r ∷ rs) = elim r.standing [ true ↦ suc (count_standing rs) | false ↦ count_standing rs ]
+count_standing rs = count_by (λ r. r.standing) rs
 
 module _ (s : Setup) (b : List BookRow) where
   abbrev pub book_put : List ℕ → Result ℕ Refusal
   book_put xs =
       ask (length xs == length s.roles) NumberCount (
       ask (nat_lt (length b) s.records) NoPlaceFree (
-      ask (within s s.roles xs) AboveTop (Ok (length b + 1))))
+      ask (within s.codings s.roles xs) AboveTop (Ok (length b + 1))))
 
   abbrev pub after_put : List ℕ → List BookRow
   after_put xs = elim (book_put xs) [ Ok n ↦ b ++ record { numbers = xs; standing = true } ∷ [] | Err e ↦ b ]
@@ -45,28 +50,27 @@ module _ (s : Setup) (b : List BookRow) where
   abbrev pub after_withdraw : ℕ → List BookRow
   after_withdraw i = elim (book_withdraw i) [ Ok n ↦ slice_set b (i - 1) (withdrawn (row_at b i)) | Err e ↦ b ]
 
-  -- the code of an entry, one number of a row, is that of its column's coding
-  abbrev pub entry_code : (i column : ℕ) → ℕ
-  entry_code i column = (coding_of s (slice_index_or s.roles column Clear)).rule (slice_index (row_at b i).numbers column)
+  abbrev pub entry_code : Entry → ℕ
+  entry_code e = (entry_coding s e).rule (entry_number b e)
 
-  abbrev pub book_show : (i column : ℕ) → Result ℕ Refusal
-  book_show i column =
-      ask (row_stands b i) NotStanding (
-      ask (nat_lt column (length s.roles)) NoSuchColumn (Ok (entry_code i column)))
+  abbrev pub book_show : Entry → Result ℕ Refusal
+  book_show e =
+      ask (row_stands b e.row) NotStanding (
+      ask (nat_lt e.column (length s.roles)) NoSuchColumn (Ok (entry_code e)))
 
-  abbrev pub book_turn_back : (i column : ℕ) → Result ℕ Refusal
-  book_turn_back i column =
-      ask (row_stands b i) NotStanding (
-      ask (nat_lt column (length s.roles)) NoSuchColumn (
-      ask (nat_le (entry_code i column) (coding_of s (slice_index_or s.roles column Clear)).top) AboveTop (Ok (slice_index (row_at b i).numbers column))))
+  abbrev pub book_turn_back : Entry → Result ℕ Refusal
+  book_turn_back e =
+      ask (row_stands b e.row) NotStanding (
+      ask (nat_lt e.column (length s.roles)) NoSuchColumn (
+      ask (nat_le (entry_code e) (entry_coding s e).top) AboveTop (Ok (entry_number b e))))
 
-  abbrev pub book_tally : Result (ℕ × ℕ) Refusal
-  book_tally = Ok (length b, count_standing b)
+  abbrev pub book_tally : Result Tally Refusal
+  book_tally = Ok (record { taken = length b; standing = count_standing b })
 
 -- The book's row memory: where a row stands, its record has its codes, zeros after them and the mark; all
 -- else is zero.
 abbrev pub record_of : Setup → BookRow → Row
-record_of s r = elim r.standing [ true ↦ marked (codes s s.roles r.numbers) | false ↦ blank ]
+record_of s r = elim r.standing [ true ↦ marked (codes s.codings s.roles r.numbers) | false ↦ blank ]
 
 abbrev pub memory_of : Setup → List BookRow → List Row
 memory_of s b = map (record_of s) b ++ replicate (s.records - length b) blank
@@ -76,5 +80,5 @@ pub record Keeps (s : Setup) (taken : ℕ) (memory : List Row) (b : List BookRow
   pub places : taken ≡ length b
   pub fits : length b ≤ s.records
   pub narrow : length s.roles ≤ 8
-  pub rows : AllByRecursion (λ r. (length r.numbers ≡ length s.roles) × (within s s.roles r.numbers ≡ true)) b
+  pub rows : AllByRecursion (λ r. (length r.numbers ≡ length s.roles) × (within s.codings s.roles r.numbers ≡ true)) b
   pub held : memory ≡ memory_of s b

@@ -6,40 +6,35 @@ use Rattle.book.specs.declared.role.Role.{Role}
 use Rattle.book.specs.declared.role.Role.TheVariants.{Yarn, Hands, Clear}
 use Rattle.book.specs.declared.row.Row.{Row}
 
--- What a release is opened with and what its calls are given: the roles of its columns, how many row
--- records there are, and what the yarn coding and the hands coding mean.
-pub record Setup : Type 0 where
-  pub roles : List Role
-  pub records : ℕ
+-- What the codings of a release's columns mean.
+pub record ColumnMeanings : Type 0 where
   pub yarn : Meaning
   pub hands : Meaning
 
--- The coding of a column under a yarn coding y and a hands coding h: a clear column has clear with top 2^64 - 1.
-abbrev pub coding_in : (y h : Meaning) → Role → Meaning
-coding_in y h Yarn = y
-coding_in y h Hands = h
-coding_in y h Clear = clear (2 ^ 64 - 1)
+-- What a release is opened with and what its calls are given: the roles of its columns, how many row
+-- records there are, and what the codings of its columns mean.
+pub record Setup : Type 0 where
+  pub roles : List Role
+  pub records : ℕ
+  pub codings : ColumnMeanings
 
-abbrev pub coding_of : Setup → Role → Meaning
-coding_of s r = coding_in s.yarn s.hands r
+-- The coding of a column of this role: a clear column has clear with top 2^64 - 1.
+abbrev pub coding_of : ColumnMeanings → Role → Meaning
+coding_of m Yarn = m.yarn
+coding_of m Hands = m.hands
+coding_of m Clear = clear (2 ^ 64 - 1)
 
 -- Is each number at most the top of its column's coding?
-abbrev pub within_in : (y h : Meaning) → List Role → List ℕ → Bool
-within_in y h [] xs = true
-within_in y h (r ∷ rs) [] = true
-within_in y h (r ∷ rs) (x ∷ xs) = nat_le x (coding_in y h r).top && within_in y h rs xs
-
-abbrev pub within : Setup → List Role → List ℕ → Bool
-within s rs xs = within_in s.yarn s.hands rs xs
+abbrev pub within : ColumnMeanings → List Role → List ℕ → Bool
+within m [] xs = true
+within m (r ∷ rs) [] = true
+within m (r ∷ rs) (x ∷ xs) = nat_le x (coding_of m r).top && within m rs xs
 
 -- The codes of a row's numbers, column by column.
-abbrev pub codes_in : (y h : Meaning) → List Role → List ℕ → List ℕ
-codes_in y h [] xs = []
-codes_in y h (r ∷ rs) [] = []
-codes_in y h (r ∷ rs) (x ∷ xs) = (coding_in y h r).rule x ∷ codes_in y h rs xs
-
-abbrev pub codes : Setup → List Role → List ℕ → List ℕ
-codes s rs xs = codes_in s.yarn s.hands rs xs
+abbrev pub codes : ColumnMeanings → List Role → List ℕ → List ℕ
+codes m [] xs = []
+codes m (r ∷ rs) [] = []
+codes m (r ∷ rs) (x ∷ xs) = (coding_of m r).rule x ∷ codes m rs xs
 
 -- Eight numbers: these, with zeros after them.
 abbrev pub padded : List ℕ → List ℕ

@@ -3,6 +3,8 @@
 #![tactic(auto)]
 
 pub mod call;
+pub mod entry;
 pub mod refusal;
 pub mod role;
 pub mod row;
+pub mod tally;

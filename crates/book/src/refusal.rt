@@ -1,7 +1,9 @@
 // Why a call on a release is refused.
 ghost use Rattle.std.specs.Prelude.{◌≡◌, Some as Shown};
 ghost use Rattle.book.specs.Refusals.{number_of, words_of};
+ghost use Rattle.book.specs.declared.refusal.Refusal.TheVariants.{AboveTop};
 
+use codings::refusal::AboveTop;
 use std::error::Error;
 use std::fmt;
 
@@ -71,3 +73,12 @@ impl fmt::Display for Refusal {
 }
 
 impl Error for Refusal {}
+
+// A coding refuses nothing but a number above its top.
+impl From<AboveTop> for Refusal {
+    ghost from_gives = { λ _ refusal. refusal ≡ AboveTop };
+
+    fn from(_: AboveTop) -> Self {
+        Self::AboveTop
+    }
+}

@@ -1,6 +1,8 @@
 // The roles of columns.
 ghost use Rattle.std.specs.Prelude.{◌≡◌};
-ghost use Rattle.book.specs.Roles.{role_of};
+ghost use Rattle.book.specs.Roles.{role_read};
+
+use crate::refusal::Refusal;
 
 // What the numbers of a column are, and so which coding they have.
 #[derive(Clone, Copy, PartialEq, Eq, Debug)]
@@ -13,14 +15,18 @@ pub enum Role {
     Clear,
 }
 
-// The role of a letter, where it is one.
-pub fn role_of(letter: char) -> Option<Role>
-    ensures { result ≡ role_of letter }
-{
-    match letter {
-        'Y' => Some(Role::Yarn),
-        'H' => Some(Role::Hands),
-        'C' => Some(Role::Clear),
-        _ => None,
+// The role of a letter.
+impl TryFrom<char> for Role {
+    type Error = Refusal;
+
+    ghost try_from_gives = { λ letter role. role ≡ role_read letter };
+
+    fn try_from(letter: char) -> Result<Role, Refusal> {
+        match letter {
+            'Y' => Ok(Role::Yarn),
+            'H' => Ok(Role::Hands),
+            'C' => Ok(Role::Clear),
+            _ => Err(Refusal::RoleLetter),
+        }
     }
 }

@@ -1,6 +1,10 @@
 -- The loop that codes a row column by column: what it keeps, and what it comes to.
-use Rattle.std.proofs.Common.{◌≡◌, ℕ, suc, ◌+◌, ◌-◌, ◌<◌, ◌≤◌, ◌⊎◌, List, [], ◌∷◌, ◌++◌, length, get_or, take, drop, set, replicate, Ok, Err, Result, sym, refl, ap, ◌∙◌, inl, inr, append_assoc, arith, length-set, take-append-drop}
+use Rattle.std.proofs.Common.{◌≡◌, ℕ, ◌+◌, ◌-◌, ◌<◌, ◌≤◌, min, ◌⊎◌, List, [], ◌∷◌, ◌++◌, length, get_or, take, drop, set, replicate, Ok, Err, Result, sym, refl, ap, ◌∙◌, inl, inr, append_assoc, arith, length-set, take-append-drop}
 use Rattle.std.proofs.lemmas.List.{drop_more, take_more_set, drop_all, drop-set-lt, drop-replicate, drop-drop}
+use Rattle.std.proofs.lemmas.List.{get_or_default}
+use Rattle.std.proofs.lemmas.List.FromFn.{length-enumerate_from, get_or-enumerate_from}
+use Rattle.std.proofs.lemmas.Slice.Zip.{length-zip, get_or-zip}
+use Rattle.std.specs.List.{zip, enumerate_from}
 use Rattle.std.proofs.lemmas.Bool.{cases_lt, le-leb, lt-leb}
 use Rattle.meanings.specs.Meaning.{Meaning}
 use Rattle.book.specs.declared.refusal.Refusal.{Refusal}
@@ -8,7 +12,8 @@ use Rattle.book.specs.declared.refusal.Refusal.TheVariants.{AboveTop}
 use Rattle.book.specs.declared.role.Role.{Role}
 use Rattle.book.specs.declared.role.Role.TheVariants.{Yarn}
 use Rattle.book.specs.Refusals.{ask}
-use Rattle.book.specs.Rows.{coding_in, within_in, codes_in}
+use Rattle.book.specs.Rows.{ColumnMeanings, coding_of, within, codes}
+use Rattle.book.proofs.Kept.{length_codes}
 use Rattle.release.specs.Coder.{one_coded, row_coded}
 
 less : (j : ℕ) → 8 - j - 1 ≡ 8 - (j + 1)
@@ -29,65 +34,92 @@ told_above m x r e = go (cases_lt m.top x)
     go (inl out) = let f : ◌≡◌ {A = Result ℕ Refusal} (Err r) (Err AboveTop) = rw (lt-leb x m.top out) at e in (out, cc)
     go (inr ins) = let f : ◌≡◌ {A = Result ℕ Refusal} (Err r) (Ok (m.rule x)) = rw (le-leb x m.top ins) at e in let z : ◌≡◌ {A = ℕ} 0 1 = cc in absurd (omega arith)
 
-module _ (y h : Meaning) where
-  length_codes : (rs : List Role) (xs : List ℕ) → length xs ≡ length rs → length (codes_in y h rs xs) ≡ length rs
-  length_codes [] xs e = refl
-  length_codes (r ∷ rs) [] e = absurd (omega arith)
-  length_codes (r ∷ rs) (x ∷ xs) e = ap suc (length_codes rs xs (omega arith))
+-- The columns that have a number.
+abbrev columns : List Role → List ℕ → ℕ
+columns rs xs = min (length rs) (length xs)
 
+-- The turn after k columns has the next one's place, role and number.
+abbrev At : List Role → List ℕ → (k j : ℕ) (role : Role) (x : ℕ) → Type 0
+At rs xs k j role x = (k < columns rs xs) × (j ≡ k) × (role ≡ get_or rs k Yarn) × (x ≡ get_or xs k 0)
+
+pub column_at : (rs : List Role) (xs : List ℕ) (k : ℕ) (p : ℕ × (Role × ℕ)) → (k < length (enumerate_from 0 (zip rs xs))) × (p ≡ get_or (enumerate_from 0 (zip rs xs)) k p)
+    → At rs xs k p.0 p.1.0 p.1.1
+column_at rs xs k p h =
+    let n = length-enumerate_from 0 (zip rs xs) in
+    let z = length-zip rs xs in
+    let lt : k < columns rs xs = omega (arith, h.0) in
+    let e = h.1 ∙ get_or-enumerate_from 0 (zip rs xs) k p (omega (arith, h.0)) in
+    let at = ap (λ q. q.1) e ∙ get_or-zip rs xs k p.1 (omega arith) (omega arith) in
+    let first = ap (λ q. q.0) e in (
+      lt,
+      omega (arith, first),
+      ap (λ q. q.0) at ∙ get_or_default rs k p.1.0 Yarn (omega arith),
+      ap (λ q. q.1) at ∙ get_or_default xs k p.1.1 0 (omega arith),
+    )
+
+module _ (m : ColumnMeanings) where
   -- what is to come where the codes so far are cs
   abbrev to_come : List Role → List ℕ → List ℕ → ℕ → Result (List ℕ) Refusal
-  to_come rs xs cs n = ask (within_in y h rs xs) AboveTop (Ok (cs ++ (codes_in y h rs xs ++ replicate (8 - n) 0)))
+  to_come rs xs cs n = ask (within m rs xs) AboveTop (Ok (cs ++ (codes m rs xs ++ replicate (8 - n) 0)))
 
-  to_come_code : (r : Role) (x : ℕ) (rs : List Role) (xs cs : List ℕ) (n : ℕ) → x ≤ (coding_in y h r).top
-      → to_come (r ∷ rs) (x ∷ xs) cs n ≡ to_come rs xs (cs ++ (coding_in y h r).rule x ∷ []) n
+  to_come_code : (r : Role) (x : ℕ) (rs : List Role) (xs cs : List ℕ) (n : ℕ) → x ≤ (coding_of m r).top
+      → to_come (r ∷ rs) (x ∷ xs) cs n ≡ to_come rs xs (cs ++ (coding_of m r).rule x ∷ []) n
   to_come_code r x rs xs cs n le =
-      rw (le-leb x (coding_in y h r).top le) (ap (λ zs. ask (within_in y h rs xs) AboveTop (Ok zs)) (sym (append_assoc cs ((coding_in y h r).rule x ∷ []) (codes_in y h rs xs ++ replicate (8 - n) 0))))
+      rw (le-leb x (coding_of m r).top le) (ap (λ zs. ask (within m rs xs) AboveTop (Ok zs)) (sym (append_assoc cs ((coding_of m r).rule x ∷ []) (codes m rs xs ++ replicate (8 - n) 0))))
 
-  to_come_above : (r : Role) (x : ℕ) (rs : List Role) (xs cs : List ℕ) (n : ℕ) → (coding_in y h r).top < x
+  to_come_above : (r : Role) (x : ℕ) (rs : List Role) (xs cs : List ℕ) (n : ℕ) → (coding_of m r).top < x
       → to_come (r ∷ rs) (x ∷ xs) cs n ≡ Err AboveTop
-  to_come_above r x rs xs cs n lt = rw (lt-leb x (coding_in y h r).top lt)
+  to_come_above r x rs xs cs n lt = rw (lt-leb x (coding_of m r).top lt)
 
-  -- After j columns the record has their codes and then zeros, and what is to come is the row's answer.
-  pub record Coded (rs : List Role) (xs : List ℕ) (j : ℕ) (cs : List ℕ) : Type 0 where
-    pub eight : length cs ≡ 8
-    pub zeros : drop j cs ≡ replicate (8 - j) 0
-    pub comes : row_coded y h rs xs ≡ to_come (drop j rs) (drop j xs) (take j cs) (length rs)
+  -- nothing is to come where no column is left, or no number
+  none_left : (rs : List Role) (xs cs : List ℕ) (n : ℕ) → (rs ≡ []) ⊎ (xs ≡ []) → to_come rs xs cs n ≡ Ok (cs ++ replicate (8 - n) 0)
+  none_left [] xs cs n e = refl
+  none_left (r ∷ rs) [] cs n e = refl
+  none_left (r ∷ rs) (x ∷ xs) cs n (inl e) = let z : ◌≡◌ {A = ℕ} 0 1 = cc in absurd (omega arith)
+  none_left (r ∷ rs) (x ∷ xs) cs n (inr e) = let z : ◌≡◌ {A = ℕ} 0 1 = cc in absurd (omega arith)
 
-  module _ (rs : List Role) (xs : List ℕ) (few : length rs ≤ 8) (each : length xs ≡ length rs) where
+  module _ (rs : List Role) (xs : List ℕ) where
+    -- After j columns the record has their codes and then zeros, and what is to come is the row's answer.
+    pub record Coded (j : ℕ) (cs : List ℕ) : Type 0 where
+      pub eight : length cs ≡ 8
+      pub zeros : drop j cs ≡ replicate (8 - j) 0
+      pub comes : row_coded m rs xs ≡ to_come (drop j rs) (drop j xs) (take j cs) (columns rs xs)
+
     -- one column taken off what is to come
-    next : (j : ℕ) (cs : List ℕ) → j < length rs → to_come (drop j rs) (drop j xs) cs (length rs) ≡ to_come (get_or rs j Yarn ∷ drop (j + 1) rs) (get_or xs j 0 ∷ drop (j + 1) xs) cs (length rs)
+    next : (j : ℕ) (cs : List ℕ) → j < (columns rs xs) → to_come (drop j rs) (drop j xs) cs (columns rs xs) ≡ to_come (get_or rs j Yarn ∷ drop (j + 1) rs) (get_or xs j 0 ∷ drop (j + 1) xs) cs (columns rs xs)
     next j cs lt =
-        ap (λ zs. to_come zs (drop j xs) cs (length rs)) (drop_more rs j Yarn lt)
-        ∙ ap (λ zs. to_come (get_or rs j Yarn ∷ drop (j + 1) rs) zs cs (length rs)) (drop_more xs j 0 (omega arith))
+        ap (λ zs. to_come zs (drop j xs) cs (columns rs xs)) (drop_more rs j Yarn (omega arith))
+        ∙ ap (λ zs. to_come (get_or rs j Yarn ∷ drop (j + 1) rs) zs cs (columns rs xs)) (drop_more xs j 0 (omega arith))
 
-    pub coded_none : Coded rs xs 0 (replicate 8 0)
-    coded_none = record { eight = refl; zeros = refl; comes = ap (λ n. ask (within_in y h rs xs) AboveTop (Ok (codes_in y h rs xs ++ replicate (8 - n) 0))) (length_codes rs xs each) }
+    pub coded_none : Coded 0 (replicate 8 0)
+    coded_none = record { eight = refl; zeros = refl; comes = ap (λ n. ask (within m rs xs) AboveTop (Ok (codes m rs xs ++ replicate (8 - n) 0))) (length_codes m rs xs) }
 
-    pub coded_one : (j : ℕ) (cs : List ℕ) (c : ℕ) → j < length rs → Coded rs xs j cs → Ok c ≡ one_coded (coding_in y h (get_or rs j Yarn)) (get_or xs j 0) → Coded rs xs (j + 1) (set cs j c)
-    coded_one j cs c lt k e =
-        let m = coding_in y h (get_or rs j Yarn) in
-        let x = get_or xs j 0 in
-        let tell = told_code m x c e in
-        let room : j < length cs = omega (arith, k.eight) in
-        let front : take j cs ++ m.rule x ∷ [] ≡ take (j + 1) (set cs j c) = ap (λ v. take j cs ++ v ∷ []) (sym tell.1) ∙ sym (take_more_set cs j c room) in
-        record {
-          eight = length-set cs j c ∙ k.eight;
-          zeros = drop-set-lt (j + 1) cs j c (omega arith) ∙ sym (drop-drop 1 j cs) ∙ ap (drop 1) k.zeros ∙ drop-replicate 1 (8 - j) 0 ∙ ap (λ n. replicate n 0) (less j);
-          comes = k.comes ∙ next j (take j cs) lt ∙ to_come_code (get_or rs j Yarn) x (drop (j + 1) rs) (drop (j + 1) xs) (take j cs) (length rs) tell.0 ∙ ap (λ zs. to_come (drop (j + 1) rs) (drop (j + 1) xs) zs (length rs)) front;
-        }
+    -- what that column's answer says of the row
+    answer_at : (k j : ℕ) (role : Role) (x : ℕ) (a : Result ℕ Refusal) → At rs xs k j role x → a ≡ one_coded (coding_of m role) x → a ≡ one_coded (coding_of m (get_or rs k Yarn)) (get_or xs k 0)
+    answer_at k j role x a at e = e ∙ ap (λ r. one_coded (coding_of m r) x) at.2 ∙ ap (one_coded (coding_of m (get_or rs k Yarn))) at.3
 
-    pub coded_above : (j : ℕ) (cs : List ℕ) (r : Refusal) → j < length rs → Coded rs xs j cs → Err r ≡ one_coded (coding_in y h (get_or rs j Yarn)) (get_or xs j 0) → Err r ≡ row_coded y h rs xs
-    coded_above j cs r lt k e =
-        let m = coding_in y h (get_or rs j Yarn) in
-        let x = get_or xs j 0 in
-        let tell = told_above m x r e in
-        let all = k.comes ∙ next j (take j cs) lt ∙ to_come_above (get_or rs j Yarn) x (drop (j + 1) rs) (drop (j + 1) xs) (take j cs) (length rs) tell.0 in
-        ap Err tell.1 ∙ sym all
+    pub coded_one : (k j : ℕ) (role : Role) (x c : ℕ) (cs : List ℕ) (k' : ℕ) → At rs xs k j role x → length rs ≤ 8 → k' ≡ k + 1 → Coded k cs → Ok c ≡ one_coded (coding_of m role) x → Coded k' (set cs j c)
+    coded_one k j role x c cs k' at few more coded e =
+        let coding = coding_of m (get_or rs k Yarn) in
+        let tell = told_code coding (get_or xs k 0) c (answer_at k j role x (Ok c) at e) in
+        let room : k < length cs = omega (arith, at.0, coded.eight) in
+        let front : take k cs ++ coding.rule (get_or xs k 0) ∷ [] ≡ take (k + 1) (set cs k c) = ap (λ v. take k cs ++ v ∷ []) (sym tell.1) ∙ sym (take_more_set cs k c room) in
+        rw (more, at.1) (record {
+          eight = length-set cs k c ∙ coded.eight;
+          zeros = drop-set-lt (k + 1) cs k c (omega arith) ∙ sym (drop-drop 1 k cs) ∙ ap (drop 1) coded.zeros ∙ drop-replicate 1 (8 - k) 0 ∙ ap (λ n. replicate n 0) (less k);
+          comes = coded.comes ∙ next k (take k cs) at.0 ∙ to_come_code (get_or rs k Yarn) (get_or xs k 0) (drop (k + 1) rs) (drop (k + 1) xs) (take k cs) (columns rs xs) tell.0 ∙ ap (λ zs. to_come (drop (k + 1) rs) (drop (k + 1) xs) zs (columns rs xs)) front;
+        })
 
-    pub coded_all : (j : ℕ) (cs : List ℕ) → length rs ≤ j → j ≤ length rs → Coded rs xs j cs → Ok cs ≡ row_coded y h rs xs
-    coded_all j cs ge le k =
+    pub coded_above : (k j : ℕ) (role : Role) (x : ℕ) (r : Refusal) (cs : List ℕ) → At rs xs k j role x → Coded k cs → Err r ≡ one_coded (coding_of m role) x → Err r ≡ row_coded m rs xs
+    coded_above k j role x r cs at coded e =
+        let tell = told_above (coding_of m (get_or rs k Yarn)) (get_or xs k 0) r (answer_at k j role x (Err r) at e) in
+        ap Err tell.1 ∙ sym (coded.comes ∙ next k (take k cs) at.0 ∙ to_come_above (get_or rs k Yarn) (get_or xs k 0) (drop (k + 1) rs) (drop (k + 1) xs) (take k cs) (columns rs xs) tell.0)
+
+    pub coded_all : (j : ℕ) (cs : List ℕ) → j ≡ (columns rs xs) → Coded j cs → Ok cs ≡ row_coded m rs xs
+    coded_all j cs same k =
         let whole : cs ≡ take j cs ++ replicate (8 - j) 0 = sym (take-append-drop j cs) ∙ ap (λ zs. take j cs ++ zs) k.zeros in
-        let end : drop j rs ≡ [] = drop_all j rs ge in
-        let same : j ≡ length rs = omega arith in
-        ap Ok (whole ∙ ap (λ n. take j cs ++ replicate (8 - n) 0) same) ∙ sym (k.comes ∙ ap (λ zs. to_come zs (drop j xs) (take j cs) (length rs)) end)
+        ap Ok (whole ∙ ap (λ n. take j cs ++ replicate (8 - n) 0) same) ∙ sym (k.comes ∙ none_left (drop j rs) (drop j xs) (take j cs) (columns rs xs) (ended (cases_lt j (length rs))))
+      where
+        ended : (j < length rs) ⊎ (length rs ≤ j) → (drop j rs ≡ []) ⊎ (drop j xs ≡ [])
+        ended (inl more) = inr (drop_all j xs (omega arith))
+        ended (inr done) = inl (drop_all j rs done)

@@ -1,8 +1,12 @@
 -- From what a call answers and leaves by the definition to what every book that keeps the release says of it.
 use Rattle.std.proofs.Common.{◌≡◌, ℕ, List, Result, sym, ◌∙◌, subst}
-use Rattle.meanings.specs.Meaning.{Meaning, Lawful}
+use Rattle.meanings.specs.Meaning.{Lawful}
+use Rattle.book.specs.declared.entry.Entry.{Entry}
 use Rattle.book.specs.declared.refusal.Refusal.{Refusal}
+use Rattle.book.specs.declared.role.Role.{Role}
 use Rattle.book.specs.declared.row.Row.{Row}
+use Rattle.book.specs.declared.tally.Tally.{Tally}
+use Rattle.book.specs.Rows.{ColumnMeanings, coding_of}
 use Rattle.book.specs.Raw.{put_answer, put_memory, put_taken, withdraw_answer, withdraw_memory, show_answer, turn_back_answer, tally_answer}
 use Rattle.book.specs.Book.{after_put, after_withdraw, Keeps}
 use Rattle.book.proofs.Kept.{put_kept, withdraw_kept, show_kept, turn_back_kept, tally_kept}
@@ -11,21 +15,21 @@ use Rattle.release.specs.Calls.{PutDone, WithdrawDone, ShowDone, TurnBackDone, T
 use Rattle.release.specs.declared.plain.Plain.{Plain}
 
 module _ (o : Plain) (memory : List Row) where
-  pub put_done : (y h : Meaning) (xs : List ℕ) (r : Result ℕ Refusal) (o' : Plain) (memory' : List Row)
-      → r ≡ put_answer (setup_of o y h) o.taken memory xs
-      → o' ≡ with_taken o (put_taken (setup_of o y h) o.taken memory xs)
-      → memory' ≡ put_memory (setup_of o y h) o.taken memory xs
-      → PutDone o memory y h xs r o' memory'
-  put_done y h xs r o' memory' answer release rows =
+  pub put_done : (m : ColumnMeanings) (xs : List ℕ) (r : Result ℕ Refusal) (o' : Plain) (memory' : List Row)
+      → r ≡ put_answer (setup_of o m) o.taken memory xs
+      → o' ≡ with_taken o (put_taken (setup_of o m) o.taken memory xs)
+      → memory' ≡ put_memory (setup_of o m) o.taken memory xs
+      → PutDone o memory m xs r o' memory'
+  put_done m xs r o' memory' answer release rows =
       record {
         answer = answer;
         release = release;
         rows = rows;
         book = λ b k.
-            let kept = put_kept (setup_of o y h) o.taken memory b k xs in (
+            let kept = put_kept (setup_of o m) o.taken memory b k xs in (
               answer ∙ kept.0,
-              subst (λ p. Keeps (setup_of p y h) p.taken memory' (after_put (setup_of o y h) b xs)) (sym release)
-                  (subst (λ m. Keeps (setup_of o y h) (put_taken (setup_of o y h) o.taken memory xs) m (after_put (setup_of o y h) b xs)) (sym rows) kept.1),
+              subst (λ p. Keeps (setup_of p m) p.taken memory' (after_put (setup_of o m) b xs)) (sym release)
+                  (subst (λ rs. Keeps (setup_of o m) (put_taken (setup_of o m) o.taken memory xs) rs (after_put (setup_of o m) b xs)) (sym rows) kept.1),
             );
       }
 
@@ -36,19 +40,19 @@ module _ (o : Plain) (memory : List Row) where
       record {
         answer = answer;
         rows = rows;
-        book = λ y h b k.
-            let kept = withdraw_kept (setup_of o y h) o.taken memory b k i in
-            (answer ∙ kept.0, subst (λ m. Keeps (setup_of o y h) o.taken m (after_withdraw (setup_of o y h) b i)) (sym rows) kept.1);
+        book = λ m b k.
+            let kept = withdraw_kept (setup_of o m) o.taken memory b k i in
+            (answer ∙ kept.0, subst (λ rs. Keeps (setup_of o m) o.taken rs (after_withdraw (setup_of o m) b i)) (sym rows) kept.1);
       }
 
-  pub show_done : (i column : ℕ) (r : Result ℕ Refusal) → r ≡ show_answer (plain_setup o) o.taken memory i column → ShowDone o memory i column r
-  show_done i column r answer =
-      record { answer = answer; book = λ y h b k. answer ∙ show_kept (setup_of o y h) o.taken memory b k i column }
+  pub show_done : (e : Entry) (r : Result ℕ Refusal) → r ≡ show_answer (plain_setup o) o.taken memory e → ShowDone o memory e r
+  show_done e r answer =
+      record { answer = answer; book = λ m b k. answer ∙ show_kept (setup_of o m) o.taken memory b k e }
 
-  pub turn_back_done : (y h : Meaning) → Lawful y → Lawful h → (i column : ℕ) (r : Result ℕ Refusal)
-      → r ≡ turn_back_answer (setup_of o y h) o.taken memory i column → TurnBackDone o memory y h i column r
-  turn_back_done y h ly lh i column r answer =
-      record { answer = answer; book = λ b k. answer ∙ turn_back_kept (setup_of o y h) o.taken memory b k ly lh i column }
+  pub turn_back_done : (m : ColumnMeanings) → ((r : Role) → Lawful (coding_of m r)) → (e : Entry) (r : Result ℕ Refusal)
+      → r ≡ turn_back_answer (setup_of o m) o.taken memory e → TurnBackDone o memory m e r
+  turn_back_done m lawful e r answer =
+      record { answer = answer; book = λ b k. answer ∙ turn_back_kept (setup_of o m) o.taken memory b k lawful e }
 
-  pub tally_done : (r : Result (ℕ × ℕ) Refusal) → r ≡ tally_answer (plain_setup o) o.taken memory → TallyDone o memory r
-  tally_done r answer = record { answer = answer; book = λ y h b k. answer ∙ tally_kept (setup_of o y h) o.taken memory b k }
+  pub tally_done : (r : Result Tally Refusal) → r ≡ tally_answer (plain_setup o) o.taken memory → TallyDone o memory r
+  tally_done r answer = record { answer = answer; book = λ m b k. answer ∙ tally_kept (setup_of o m) o.taken memory b k }

@@ -4,7 +4,8 @@ use Rattle.std.proofs.lemmas.List.{drop_more, take_more_set, drop_all}
 use Rattle.std.proofs.lemmas.Bool.{lt-ltb, le-leb}
 use Rattle.book.specs.declared.refusal.Refusal.{Refusal}
 use Rattle.book.specs.declared.role.Role.{Role}
-use Rattle.release.specs.Opening.{role_read, in_front, roles_of, columns_of}
+use Rattle.book.specs.Roles.{role_read}
+use Rattle.release.specs.Opening.{in_front, roles_of, columns_of}
 
 front_none : (a : Result (List Role) Refusal) → a ≡ in_front [] a
 front_none (Ok rs) = refl

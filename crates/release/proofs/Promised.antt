@@ -1,9 +1,11 @@
 -- What holds after a list of calls, from what the list answers and leaves by the definition.
-use Rattle.std.proofs.Common.{◌≡◌, ℕ, List, [], length, Ok, Err, Result, sym, ap, ◌∙◌, subst}
-use Rattle.meanings.specs.Meaning.{Meaning, Lawful}
+use Rattle.std.proofs.Common.{◌≡◌, ℕ, List, [], ◌++◌, length, Ok, Err, Result, sym, ap, ◌∙◌, subst}
+use Rattle.meanings.specs.Meaning.{Lawful}
 use Rattle.book.specs.declared.call.Answer.{Answer}
 use Rattle.book.specs.declared.refusal.Refusal.{Refusal}
+use Rattle.book.specs.declared.role.Role.{Role}
 use Rattle.book.specs.declared.row.Row.{Row}
+use Rattle.book.specs.Rows.{ColumnMeanings, coding_of}
 use Rattle.book.specs.Book.{Keeps}
 use Rattle.book.specs.Runs.{Asked, State, answers, after_all, book_after_all, Promise}
 use Rattle.book.proofs.Runs.{run_kept}
@@ -14,22 +16,23 @@ use Rattle.release.specs.Promises.{BookKept, ListDone, RanFrom}
 use Rattle.release.specs.Views.{setup_of, roles_in, with_taken}
 use Rattle.release.specs.declared.plain.Plain.{Plain}
 
-pub list_done : (o : Plain) (memory : List Row) (y h : Meaning) → Lawful y → Lawful h → (cs : List Asked) (told : List Answer) (o' : Plain) (memory' : List Row)
-    → told ≡ answers (setup_of o y h) (state_of o memory) cs
-    → state_of o' memory' ≡ after_all (setup_of o y h) (state_of o memory) cs
+pub list_done : (o : Plain) (memory : List Row) (m : ColumnMeanings) → ((r : Role) → Lawful (coding_of m r)) → (cs : List Asked) (before told : List (Result Answer Refusal)) (o' : Plain) (memory' : List Row)
+    → before ≡ [] → told ≡ before ++ answers (setup_of o m) (state_of o memory) cs
+    → state_of o' memory' ≡ after_all (setup_of o m) (state_of o memory) cs
     → o' ≡ with_taken o o'.taken
-    → ListDone o memory y h cs told o' memory'
-list_done o memory y h ly lh cs told o' memory' answered left release =
+    → ListDone o memory m cs told o' memory'
+list_done o memory m lawful cs before told o' memory' none more left release =
+    let answered = more ∙ ap (λ zs. zs ++ answers (setup_of o m) (state_of o memory) cs) none in
     record {
       answered = answered;
       left = left;
       release = release;
       book = λ b k.
-          let run = run_kept (setup_of o y h) ly lh (state_of o memory) b cs k in
+          let run = run_kept (setup_of o m) lawful (state_of o memory) b cs k in
           record {
             answers = answered ∙ run.answered;
-            keeps = subst (λ (st : State). Keeps (setup_of o y h) st.taken st.memory (book_after_all (setup_of o y h) b cs)) (sym left) run.keeps;
-            promise = subst (λ (st : State). Promise (setup_of o y h) st (book_after_all (setup_of o y h) b cs)) (sym left) run.promise;
+            keeps = subst (λ (st : State). Keeps (setup_of o m) st.taken st.memory (book_after_all (setup_of o m) b cs)) (sym left) run.keeps;
+            promise = subst (λ (st : State). Promise (setup_of o m) st (book_after_all (setup_of o m) b cs)) (sym left) run.promise;
           };
     }
 
@@ -38,13 +41,13 @@ read_ok : {X Y : Type 0} (a : Result Y Refusal) (x : X) (v : X → Y) → ReadAs
 read_ok (Ok y) x v h = ap Ok (sym h)
 read_ok (Err e) x v h = absurd h
 
-pub ran_from : (letters : List ℕ) (memory zeroed : List Row) (o : Plain) (y h : Meaning) (cs : List Asked) (told : List Answer) (o' : Plain) (memory' : List Row)
-    → Opened letters memory (Ok o) zeroed → ListDone o zeroed y h cs told o' memory' → RanFrom letters memory y h cs o' told memory'
-ran_from letters memory zeroed o y h cs told o' memory' opened done =
-    let same : setup_of o' y h ≡ setup_of o y h = ap (λ p. setup_of p y h) done.release in
+pub ran_from : (letters : List ℕ) (memory zeroed : List Row) (o : Plain) (m : ColumnMeanings) (cs : List Asked) (told : List (Result Answer Refusal)) (o' : Plain) (memory' : List Row)
+    → Opened letters memory (Ok o) zeroed → ListDone o zeroed m cs told o' memory' → RanFrom letters memory m cs o' told memory'
+ran_from letters memory zeroed o m cs told o' memory' opened done =
+    let same : setup_of o' m ≡ setup_of o m = ap (λ p. setup_of p m) done.release in
     let roles : roles_in o'.columns ≡ roles_in o.columns = ap (λ p. roles_in p.columns) done.release in
     record {
       roles = read_ok (open_answer letters (length memory)) o (λ p. roles_in p.columns) opened.answer ∙ ap Ok (sym roles);
       records = ap (λ p. p.records) done.release ∙ opened.fresh.0;
-      book = subst (λ s. BookKept s [] cs told o'.taken memory') (sym same) (done.book [] (opened.fresh.3 y h));
+      book = subst (λ s. BookKept s [] cs told o'.taken memory') (sym same) (done.book [] (opened.fresh.3 m));
     }

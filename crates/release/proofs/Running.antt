@@ -1,25 +1,24 @@
 -- The loop over a list of calls: what it keeps from call to call.
-use Rattle.std.proofs.Common.{◌≡◌, ℕ, ◌+◌, ◌<◌, ◌≤◌, List, [], ◌∷◌, ◌++◌, map, length, get_or, drop, sym, refl, ap, ◌∙◌, append_assoc, append-nil}
+use Rattle.std.proofs.Common.{◌≡◌, ℕ, ◌+◌, ◌<◌, ◌≤◌, List, [], ◌∷◌, ◌++◌, map, length, get_or, drop, Result, sym, ap, ◌∙◌, append_assoc, append-nil}
 use Rattle.std.proofs.lemmas.List.{drop_more, drop_all}
 use Rattle.book.specs.declared.call.Answer.{Answer}
 use Rattle.book.specs.declared.call.Call.{Call}
+use Rattle.book.specs.declared.refusal.Refusal.{Refusal}
 use Rattle.book.specs.Rows.{Setup}
 use Rattle.book.specs.Runs.{State, answer, after, answers, after_all}
 use Rattle.release.specs.Listed.{asked_of}
 
--- After j calls the answers so far and those to come are all the answers, and what is to come ends where the
--- whole list ends.
-pub record Underway (s : Setup) (begin : State) (calls : List Call) (j : ℕ) (st : State) (told : List Answer) : Type 0 where
-  pub tells : told ++ answers s st (map asked_of (drop j calls)) ≡ answers s begin (map asked_of calls)
-  pub ends : after_all s st (map asked_of (drop j calls)) ≡ after_all s begin (map asked_of calls)
+-- The calls begin in the state begin, where these answers were told before.
+module _ (s : Setup) (begin : State) (before : List (Result Answer Refusal)) (calls : List Call) where
+  -- After j calls the answers so far and those to come are all the answers, and what is to come ends where the
+  -- whole list ends.
+  pub record Underway (j : ℕ) (st : State) (told : List (Result Answer Refusal)) : Type 0 where
+    pub tells : told ++ answers s st (map asked_of (drop j calls)) ≡ before ++ answers s begin (map asked_of calls)
+    pub ends : after_all s st (map asked_of (drop j calls)) ≡ after_all s begin (map asked_of calls)
 
-module _ (s : Setup) (begin : State) (calls : List Call) where
-  pub run_begins : (told : List Answer) → told ≡ [] → Underway s begin calls 0 begin told
-  run_begins told e = record { tells = ap (λ zs. zs ++ answers s begin (map asked_of calls)) e; ends = refl }
-
-  pub run_goes : (j : ℕ) (st st' : State) (told told' : List Answer) (a : Answer) (d : Call) (s' : Setup) → s' ≡ s → j < length calls
+  pub run_goes : (j : ℕ) (st st' : State) (told told' : List (Result Answer Refusal)) (a : Result Answer Refusal) (d : Call) (s' : Setup) → s' ≡ s → j < length calls
       → a ≡ answer s' st (asked_of (get_or calls j d)) → st' ≡ after s' st (asked_of (get_or calls j d))
-      → told' ≡ told ++ a ∷ [] → Underway s begin calls j st told → Underway s begin calls (j + 1) st' told'
+      → told' ≡ told ++ a ∷ [] → Underway j st told → Underway (j + 1) st' told'
   run_goes j st st' told told' a d s' same lt ans' nxt' more u =
       let c = get_or calls j d in
       let ans : a ≡ answer s st (asked_of c) = ans' ∙ ap (λ z. answer z st (asked_of c)) same in
@@ -36,8 +35,8 @@ module _ (s : Setup) (begin : State) (calls : List Call) where
         ends = ap (λ x. after_all s x rest) nxt ∙ sym (ap (λ zs. after_all s st (map asked_of zs)) cut) ∙ u.ends;
       }
 
-  pub run_ends : (j : ℕ) (st : State) (told : List Answer) → length calls ≤ j → Underway s begin calls j st told
-      → (told ≡ answers s begin (map asked_of calls)) × (st ≡ after_all s begin (map asked_of calls))
+  pub run_ends : (j : ℕ) (st : State) (told : List (Result Answer Refusal)) → length calls ≤ j → Underway j st told
+      → (told ≡ before ++ answers s begin (map asked_of calls)) × (st ≡ after_all s begin (map asked_of calls))
   run_ends j st told ge u =
       let none = drop_all j calls ge in (
         sym (append-nil told) ∙ sym (ap (λ zs. told ++ answers s st (map asked_of zs)) none) ∙ u.tells,

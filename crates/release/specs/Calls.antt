@@ -1,13 +1,14 @@
 -- What each call on a release answers and leaves: by the definition for all inputs, and by every book that
 -- keeps the release.
 use Rattle.std.specs.Prelude.{◌≡◌, ℕ, ◌&&◌, List, [], length, replicate, Ok, Err, Result, nat_le, nat_lt}
-use Rattle.meanings.specs.Meaning.{Meaning}
+use Rattle.book.specs.declared.entry.Entry.{Entry}
 use Rattle.book.specs.declared.refusal.Refusal.{Refusal}
 use Rattle.book.specs.declared.refusal.Refusal.TheVariants.{RowRecords}
 use Rattle.book.specs.declared.role.Role.{Role}
 use Rattle.book.specs.declared.row.Row.{Row}
+use Rattle.book.specs.declared.tally.Tally.{Tally}
 use Rattle.book.specs.Refusals.{ask}
-use Rattle.book.specs.Rows.{blank}
+use Rattle.book.specs.Rows.{ColumnMeanings, blank}
 use Rattle.book.specs.Raw.{put_answer, put_memory, put_taken, withdraw_answer, withdraw_memory, show_answer, turn_back_answer, tally_answer}
 use Rattle.book.specs.Book.{BookRow, book_put, after_put, book_withdraw, after_withdraw, book_show, book_turn_back, book_tally, Keeps}
 use Rattle.release.specs.Opening.{columns_of, ReadAs}
@@ -21,7 +22,7 @@ open_answer letters records = elim (columns_of letters) [ Ok rs ↦ ask (nat_lt 
 -- A release just opened has these roles, all the records and no place taken; its memory is all zero, and the
 -- empty book keeps it, whatever codings its calls will be given.
 abbrev pub Fresh : Result Plain Refusal → (memory memory' : List Row) → Type 0
-Fresh (Ok o) memory memory' = (o.records ≡ length memory) × (o.taken ≡ 0) × (memory' ≡ replicate (length memory) blank) × ((y h : Meaning) → Keeps (setup_of o y h) o.taken memory' [])
+Fresh (Ok o) memory memory' = (o.records ≡ length memory) × (o.taken ≡ 0) × (memory' ≡ replicate (length memory) blank) × ((m : ColumnMeanings) → Keeps (setup_of o m) o.taken memory' [])
 Fresh (Err e) memory memory' = memory' ≡ memory
 
 pub record Opened (letters : List ℕ) (memory : List Row) (r : Result Plain Refusal) (memory' : List Row) : Type 0 where
@@ -29,27 +30,27 @@ pub record Opened (letters : List ℕ) (memory : List Row) (r : Result Plain Ref
   pub fresh : Fresh r memory memory'
 
 module _ (o : Plain) (memory : List Row) where
-  pub record PutDone (y h : Meaning) (xs : List ℕ) (r : Result ℕ Refusal) (o' : Plain) (memory' : List Row) : Type 0 where
-    pub answer : r ≡ put_answer (setup_of o y h) o.taken memory xs
-    pub release : o' ≡ with_taken o (put_taken (setup_of o y h) o.taken memory xs)
-    pub rows : memory' ≡ put_memory (setup_of o y h) o.taken memory xs
-    pub book : (b : List BookRow) → Keeps (setup_of o y h) o.taken memory b
-        → (r ≡ book_put (setup_of o y h) b xs) × Keeps (setup_of o' y h) o'.taken memory' (after_put (setup_of o y h) b xs)
+  pub record PutDone (m : ColumnMeanings) (xs : List ℕ) (r : Result ℕ Refusal) (o' : Plain) (memory' : List Row) : Type 0 where
+    pub answer : r ≡ put_answer (setup_of o m) o.taken memory xs
+    pub release : o' ≡ with_taken o (put_taken (setup_of o m) o.taken memory xs)
+    pub rows : memory' ≡ put_memory (setup_of o m) o.taken memory xs
+    pub book : (b : List BookRow) → Keeps (setup_of o m) o.taken memory b
+        → (r ≡ book_put (setup_of o m) b xs) × Keeps (setup_of o' m) o'.taken memory' (after_put (setup_of o m) b xs)
 
   pub record WithdrawDone (i : ℕ) (r : Result (Unit {0}) Refusal) (memory' : List Row) : Type 0 where
     pub answer : r ≡ withdraw_answer (plain_setup o) o.taken memory i
     pub rows : memory' ≡ withdraw_memory (plain_setup o) o.taken memory i
-    pub book : (y h : Meaning) (b : List BookRow) → Keeps (setup_of o y h) o.taken memory b
-        → (r ≡ book_withdraw (setup_of o y h) b i) × Keeps (setup_of o y h) o.taken memory' (after_withdraw (setup_of o y h) b i)
+    pub book : (m : ColumnMeanings) (b : List BookRow) → Keeps (setup_of o m) o.taken memory b
+        → (r ≡ book_withdraw (setup_of o m) b i) × Keeps (setup_of o m) o.taken memory' (after_withdraw (setup_of o m) b i)
 
-  pub record ShowDone (i column : ℕ) (r : Result ℕ Refusal) : Type 0 where
-    pub answer : r ≡ show_answer (plain_setup o) o.taken memory i column
-    pub book : (y h : Meaning) (b : List BookRow) → Keeps (setup_of o y h) o.taken memory b → r ≡ book_show (setup_of o y h) b i column
+  pub record ShowDone (e : Entry) (r : Result ℕ Refusal) : Type 0 where
+    pub answer : r ≡ show_answer (plain_setup o) o.taken memory e
+    pub book : (m : ColumnMeanings) (b : List BookRow) → Keeps (setup_of o m) o.taken memory b → r ≡ book_show (setup_of o m) b e
 
-  pub record TurnBackDone (y h : Meaning) (i column : ℕ) (r : Result ℕ Refusal) : Type 0 where
-    pub answer : r ≡ turn_back_answer (setup_of o y h) o.taken memory i column
-    pub book : (b : List BookRow) → Keeps (setup_of o y h) o.taken memory b → r ≡ book_turn_back (setup_of o y h) b i column
+  pub record TurnBackDone (m : ColumnMeanings) (e : Entry) (r : Result ℕ Refusal) : Type 0 where
+    pub answer : r ≡ turn_back_answer (setup_of o m) o.taken memory e
+    pub book : (b : List BookRow) → Keeps (setup_of o m) o.taken memory b → r ≡ book_turn_back (setup_of o m) b e
 
-  pub record TallyDone (r : Result (ℕ × ℕ) Refusal) : Type 0 where
+  pub record TallyDone (r : Result Tally Refusal) : Type 0 where
     pub answer : r ≡ tally_answer (plain_setup o) o.taken memory
-    pub book : (y h : Meaning) (b : List BookRow) → Keeps (setup_of o y h) o.taken memory b → r ≡ book_tally (setup_of o y h) b
+    pub book : (m : ColumnMeanings) (b : List BookRow) → Keeps (setup_of o m) o.taken memory b → r ≡ book_tally (setup_of o m) b

@@ -5,3 +5,4 @@ pub mod Calls
 pub mod Handed
 pub mod Listed
 pub mod Promises
+pub mod Shown

@@ -9,8 +9,8 @@ use Rattle.release.specs.declared.plain.Plain.{Plain}
 abbrev pub asked_of : Call → Asked
 asked_of (Put numbers) = put numbers.now
 asked_of (Withdraw row) = withdraw row
-asked_of (Show row column) = show row column
-asked_of (TurnBack row column) = turn_back row column
+asked_of (Show entry) = show entry
+asked_of (TurnBack entry) = turn_back entry
 asked_of Tally = tally
 
 abbrev pub state_of : Plain → List Row → State

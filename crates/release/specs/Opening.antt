@@ -1,14 +1,10 @@
 -- What opening a release asks of its columns.
-use Rattle.std.specs.Prelude.{◌≡◌, ℕ, ◌&&◌, List, [], ◌∷◌, ◌++◌, length, Some, None, Ok, Err, Result, nat_le, nat_lt}
+use Rattle.std.specs.Prelude.{◌≡◌, ℕ, ◌&&◌, List, [], ◌∷◌, ◌++◌, length, Ok, Err, Result, nat_le, nat_lt}
 use Rattle.book.specs.declared.refusal.Refusal.{Refusal}
-use Rattle.book.specs.declared.refusal.Refusal.TheVariants.{Columns, RoleLetter}
+use Rattle.book.specs.declared.refusal.Refusal.TheVariants.{Columns}
 use Rattle.book.specs.declared.role.Role.{Role}
 use Rattle.book.specs.Refusals.{ask}
-use Rattle.book.specs.Roles.{role_of}
-
--- The role of a letter, or refusal 15.
-abbrev pub role_read : ℕ → Result Role Refusal
-role_read l = elim (role_of l) [ None ↦ Err RoleLetter | Some r ↦ Ok r ]
+use Rattle.book.specs.Roles.{role_read}
 
 -- Roles in front of others, where those can be read.
 abbrev pub in_front : List Role → Result (List Role) Refusal → Result (List Role) Refusal

@@ -5,20 +5,25 @@ use Rattle.meanings.specs.Supplied.{clear}
 use Rattle.book.specs.Raw.{record_at, stands}
 use Rattle.book.specs.declared.role.Role.{Role}
 use Rattle.book.specs.declared.row.Row.{Row}
-use Rattle.book.specs.Rows.{Setup}
+use Rattle.book.specs.Rows.{ColumnMeanings, Setup}
+use Rattle.release.specs.declared.column_codings.ColumnCodings.{ColumnCodings}
 use Rattle.release.specs.declared.columns.Columns.{Columns}
 use Rattle.release.specs.declared.plain.Plain.{Plain}
 
 abbrev pub roles_in : Columns → List Role
 roles_in c = take c.count c.roles
 
--- under a yarn coding that means y and a hands coding that means h
-abbrev pub setup_of : Plain → (y h : Meaning) → Setup
-setup_of o y h = record { roles = roles_in o.columns; records = o.records; yarn = y; hands = h }
+-- what column codings mean, by what a yarn coding and a hands coding mean
+abbrev pub meanings_of : {Y H : Type 0} → (Y → Meaning) → (H → Meaning) → ColumnCodings Y H → ColumnMeanings
+meanings_of y h codings = record { yarn = y codings.yarn; hands = h codings.hands }
+
+-- a release whose calls are given codings that mean m
+abbrev pub setup_of : Plain → ColumnMeanings → Setup
+setup_of o m = record { roles = roles_in o.columns; records = o.records; codings = m }
 
 -- where no coding is asked, the codings do not matter: clear stands for both
 abbrev pub plain_setup : Plain → Setup
-plain_setup o = setup_of o (clear 0) (clear 0)
+plain_setup o = setup_of o (record { yarn = clear 0; hands = clear 0 })
 
 -- the release with so many places taken
 abbrev pub with_taken : Plain → ℕ → Plain

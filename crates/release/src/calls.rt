@@ -1,16 +1,19 @@
-// The calls on an open release.
+// The calls on a release.
 ghost use Rattle.std.specs.Prelude.{◌≡◌, length, replicate};
 ghost use Rattle.book.specs.Rows.{blank};
 ghost use Rattle.release.specs.Calls.{Opened, PutDone, WithdrawDone, ShowDone, TurnBackDone, TallyDone};
 ghost use Rattle.release.specs.Handed.{plain_of};
+ghost use Rattle.release.specs.Views.{meanings_of};
 
-use crate::open::Open;
+use crate::column_codings::ColumnCodings;
 use crate::opening::read_columns;
 use crate::plain::Plain;
 use crate::raw::blank_all;
-use crate::sealed::Sealed;
+use crate::states::{Open, Release, Sealed};
+use book::entry::Entry;
 use book::refusal::Refusal;
 use book::row::Row;
+use book::tally::Tally;
 use codings::coding::Coding;
 
 impl Plain {
@@ -32,28 +35,41 @@ impl Plain {
     }
 }
 
-impl Open {
+impl<S> Release<S> {
+    // The code of an entry.
+    pub fn show(&self, memory: &[Row], entry: Entry) -> Result<u64, Refusal>
+        ensures { ShowDone self.now.plain memory.now entry result }
+    {
+        self.plain.show_code(memory, entry)
+    }
+
+    // The places taken and the rows standing.
+    pub fn tally(&self, memory: &[Row]) -> Result<Tally, Refusal>
+        ensures { TallyDone self.now.plain memory.now result }
+    {
+        self.plain.count(memory)
+    }
+}
+
+impl Release<Open> {
     // Opens a release with a column for each role letter over all of the row memory, which it sets to zero.
-    pub fn open(letters: &[char], memory: &mut [Row]) -> Result<Open, Refusal>
+    pub fn open(letters: &[char], memory: &mut [Row]) -> Result<Release<Open>, Refusal>
         ensures { Opened letters.now memory.old (plain_of result) memory.new }
     {
-        match Plain::opened(letters, memory) {
-            Ok(plain) => Ok(Open { plain }),
-            Err(refusal) => Err(refusal),
-        }
+        let plain = Plain::opened(letters, memory)?;
+        Ok(Release { plain, state: Open })
     }
 
     // Puts a row, a number for each column, at the next place, and answers its number, counted from 1.
     pub fn put<Y: Coding, H: Coding>(
         &mut self,
         memory: &mut [Row],
-        yarn: &Y,
-        hands: &H,
+        codings: &ColumnCodings<Y, H>,
         numbers: &[u64],
     ) -> Result<usize, Refusal>
-        ensures { PutDone self.old.plain memory.old (Y.Coding.means yarn.now) (H.Coding.means hands.now) numbers.now result self.new.plain memory.new }
+        ensures { PutDone self.old.plain memory.old (meanings_of Y.means H.means codings.now) numbers.now result self.new.plain memory.new }
     {
-        self.plain.put_row(memory, yarn, hands, numbers)
+        self.plain.put_row(memory, codings, numbers)
     }
 
     // Sets the record of a standing row to zero. Its place is not used again.
@@ -64,63 +80,34 @@ impl Open {
         self.plain.withdraw_row(memory, row)
     }
 
-    // The code in a row and a column, the columns counted from 0.
-    pub fn show(&self, memory: &[Row], row: usize, column: usize) -> Result<u64, Refusal>
-        ensures { ShowDone self.now.plain memory.now row column result }
-    {
-        self.plain.show_code(memory, row, column)
-    }
-
-    // The number whose code stands in a row and a column.
+    // The number whose code is an entry's.
     pub fn turn_back<Y: Coding, H: Coding>(
         &self,
         memory: &[Row],
-        yarn: &Y,
-        hands: &H,
-        row: usize,
-        column: usize,
+        codings: &ColumnCodings<Y, H>,
+        entry: Entry,
     ) -> Result<u64, Refusal>
-        ensures { TurnBackDone self.now.plain memory.now (Y.Coding.means yarn.now) (H.Coding.means hands.now) row column result }
+        ensures { TurnBackDone self.now.plain memory.now (meanings_of Y.means H.means codings.now) entry result }
     {
-        self.plain.turn_code(memory, yarn, hands, row, column)
-    }
-
-    // The places taken and the rows standing.
-    pub fn tally(&self, memory: &[Row]) -> Result<(usize, usize), Refusal>
-        ensures { TallyDone self.now.plain memory.now result }
-    {
-        self.plain.count(memory)
+        self.plain.turn_code(memory, codings, entry)
     }
 
     // Seals the release: from here on its rows can only be shown and counted.
-    pub fn seal(self) -> Sealed
+    pub fn seal(self) -> Release<Sealed>
         ensures { result.plain ≡ self.plain }
     {
-        let Open { plain } = self;
-        Sealed { plain }
+        let Release { plain, state: Open } = self;
+        Release {
+            plain,
+            state: Sealed,
+        }
     }
 
     // Ends the release and sets all of the row memory given to zero, of whatever length.
     pub fn scrap(self, memory: &mut [Row])
         ensures { memory.new ≡ replicate (length memory.old) blank }
     {
-        let Open { plain: _ } = self;
+        let Release { state: Open, .. } = self;
         blank_all(memory);
-    }
-}
-
-impl Sealed {
-    // The code in a row and a column, the columns counted from 0.
-    pub fn show(&self, memory: &[Row], row: usize, column: usize) -> Result<u64, Refusal>
-        ensures { ShowDone self.now.plain memory.now row column result }
-    {
-        self.plain.show_code(memory, row, column)
-    }
-
-    // The places taken and the rows standing.
-    pub fn tally(&self, memory: &[Row]) -> Result<(usize, usize), Refusal>
-        ensures { TallyDone self.now.plain memory.now result }
-    {
-        self.plain.count(memory)
     }
 }

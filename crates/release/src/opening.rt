@@ -1,10 +1,10 @@
 // Reading the role letters of a release.
 ghost use Rattle.std.specs.Prelude.{◌≡◌, take};
-ghost use Rattle.release.specs.Opening.{columns_of, role_read, ReadAs};
+ghost use Rattle.release.specs.Opening.{columns_of, ReadAs};
 
 use crate::columns::Columns;
 use book::refusal::Refusal;
-use book::role::{Role, role_of};
+use book::role::Role;
 
 // The columns of these role letters; refused where there are not 1 to 8 (14), or one is no role letter (15).
 pub(crate) fn read_columns(letters: &[char]) -> Result<Columns, Refusal>
@@ -15,17 +15,8 @@ pub(crate) fn read_columns(letters: &[char]) -> Result<Columns, Refusal>
         return Err(Refusal::Columns);
     }
     let mut roles = [Role::Clear; 8];
-    for j in 0..count {
-        roles[j] = read_role(letters[j])?;
+    for (j, letter) in letters.iter().enumerate() {
+        roles[j] = Role::try_from(*letter)?;
     }
     Ok(Columns { roles, count })
-}
-
-fn read_role(letter: char) -> Result<Role, Refusal>
-    ensures { result ≡ role_read letter }
-{
-    match role_of(letter) {
-        Some(role) => Ok(role),
-        None => Err(Refusal::RoleLetter),
-    }
 }

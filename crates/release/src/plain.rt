@@ -1,4 +1,4 @@
-// A release by its plain numbers, which an open release and a sealed one share.
+// A release by its plain numbers, which do not tell its state.
 use crate::columns::Columns;
 
 #[derive(Clone, Copy)]

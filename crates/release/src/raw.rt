@@ -1,72 +1,73 @@
 // The bodies of the calls, by the questions that they ask in sequence; the first no decides.
-ghost use Rattle.std.specs.Prelude.{◌≡◌, length, take, replicate};
+ghost use Rattle.std.specs.Prelude.{◌≡◌, ◌≢◌, length, take, replicate, MatchResult};
+ghost use Rattle.book.specs.declared.refusal.Refusal.TheVariants.{MemoryLength};
 ghost use Rattle.book.specs.Raw.{stands, put_answer, put_memory, put_taken, withdraw_answer, withdraw_memory, show_answer, turn_back_answer, tally_answer, count_marks};
 ghost use Rattle.book.specs.Rows.{blank};
-ghost use Rattle.release.specs.Views.{setup_of, plain_setup, with_taken, Standing, StandingRecord};
+ghost use Rattle.release.specs.Views.{meanings_of, setup_of, plain_setup, with_taken, Standing, StandingRecord};
 ghost use Rattle.std.specs.Option.{option_map};
 
-use crate::coder::{back_in, coded_row};
+use crate::column_codings::ColumnCodings;
 use crate::plain::Plain;
+use book::entry::Entry;
 use book::refusal::Refusal;
 use book::row::Row;
+use book::tally::Tally;
 use codings::coding::Coding;
 
-const BLANK: Row = Row {
-    numbers: [0; 8],
-    standing: false,
-};
-
-// The place of the record of this row, where the row stands: its number was given out and its record has the
-// mark.
-pub(crate) fn standing_place(taken: usize, memory: &[Row], row: usize) -> Option<usize>
-    ensures { Standing taken memory.now row result }
-{
-    if row == 0 || row > taken {
-        return None;
-    }
-    if row > memory.len() {
-        return None;
-    }
-    let place = row - 1;
-    if memory[place].standing {
-        Some(place)
-    } else {
-        None
-    }
-}
-
-// The record of this row, where the row stands.
-fn standing_record(taken: usize, memory: &[Row], row: usize) -> Option<&Row>
-    ensures { StandingRecord taken memory.now row (option_map (λ x. x.now) result) }
-{
-    match standing_place(taken, memory, row) {
-        Some(place) => Some(&memory[place]),
-        None => None,
-    }
-}
-
 impl Plain {
+    // Row memory has to have the length that the release was opened with.
+    fn ask_length(&self, memory: &[Row]) -> Result<(), Refusal>
+        ensures { MatchResult result (λ _. length memory.now ≡ self.now.records) (λ e. (length memory.now ≢ self.now.records) × (e ≡ MemoryLength)) }
+    {
+        if memory.len() == self.records {
+            Ok(())
+        } else {
+            Err(Refusal::MemoryLength)
+        }
+    }
+
+    // The records of the places taken.
+    fn given_out<'a>(&self, memory: &'a [Row]) -> &'a [Row]
+        ensures { result.now ≡ take self.now.taken memory.now }
+    {
+        &memory[..self.taken.min(memory.len())]
+    }
+
+    // The place of the record of this row, where the row stands: its number was given out and its record has the mark.
+    fn standing_place(&self, memory: &[Row], row: usize) -> Option<usize>
+        ensures { Standing self.now.taken memory.now row result }
+    {
+        let place = row.checked_sub(1)?;
+        let record = self.given_out(memory).get(place)?;
+        record.standing.then_some(place)
+    }
+
+    // The record of this row, where the row stands.
+    fn standing_record<'a>(&self, memory: &'a [Row], row: usize) -> Option<&'a Row>
+        ensures { StandingRecord self.now.taken memory.now row (option_map (λ x. x.now) result) }
+    {
+        let place = self.standing_place(memory, row)?;
+        Some(&memory[place])
+    }
+
     pub(crate) fn put_row<Y: Coding, H: Coding>(
         &mut self,
         memory: &mut [Row],
-        yarn: &Y,
-        hands: &H,
+        codings: &ColumnCodings<Y, H>,
         numbers: &[u64],
     ) -> Result<usize, Refusal>
-        ensures answer { result ≡ put_answer (setup_of self.old (Y.Coding.means yarn.now) (H.Coding.means hands.now)) self.old.taken memory.old numbers.now }
-        ensures memory { memory.new ≡ put_memory (setup_of self.old (Y.Coding.means yarn.now) (H.Coding.means hands.now)) self.old.taken memory.old numbers.now }
-        ensures release { self.new ≡ with_taken self.old (put_taken (setup_of self.old (Y.Coding.means yarn.now) (H.Coding.means hands.now)) self.old.taken memory.old numbers.now) }
+        ensures answer { result ≡ put_answer (setup_of self.old (meanings_of Y.means H.means codings.now)) self.old.taken memory.old numbers.now }
+        ensures memory { memory.new ≡ put_memory (setup_of self.old (meanings_of Y.means H.means codings.now)) self.old.taken memory.old numbers.now }
+        ensures release { self.new ≡ with_taken self.old (put_taken (setup_of self.old (meanings_of Y.means H.means codings.now)) self.old.taken memory.old numbers.now) }
     {
-        if memory.len() != self.records {
-            return Err(Refusal::MemoryLength);
-        }
+        self.ask_length(memory)?;
         if numbers.len() != self.columns.count {
             return Err(Refusal::NumberCount);
         }
         if self.taken >= self.records {
             return Err(Refusal::NoPlaceFree);
         }
-        let codes = coded_row(self.columns.as_slice(), yarn, hands, numbers)?;
+        let codes = codings.coded_row(&self.columns, numbers)?;
         memory[self.taken] = Row {
             numbers: codes,
             standing: true,
@@ -79,57 +80,47 @@ impl Plain {
         ensures answer { result ≡ withdraw_answer (plain_setup self.now) self.now.taken memory.old row }
         ensures memory { memory.new ≡ withdraw_memory (plain_setup self.now) self.now.taken memory.old row }
     {
-        if memory.len() != self.records {
-            return Err(Refusal::MemoryLength);
-        }
-        let Some(place) = standing_place(self.taken, memory, row) else {
-            return Err(Refusal::NotStanding);
-        };
-        memory[place] = BLANK;
+        self.ask_length(memory)?;
+        let place = self
+            .standing_place(memory, row)
+            .ok_or(Refusal::NotStanding)?;
+        memory[place] = Row::BLANK;
         Ok(())
     }
 
-    pub(crate) fn show_code(
-        &self,
-        memory: &[Row],
-        row: usize,
-        column: usize,
-    ) -> Result<u64, Refusal>
-        ensures { result ≡ show_answer (plain_setup self.now) self.now.taken memory.now row column }
+    pub(crate) fn show_code(&self, memory: &[Row], entry: Entry) -> Result<u64, Refusal>
+        ensures { result ≡ show_answer (plain_setup self.now) self.now.taken memory.now entry }
     {
-        if memory.len() != self.records {
-            return Err(Refusal::MemoryLength);
-        }
-        let Some(record) = standing_record(self.taken, memory, row) else {
-            return Err(Refusal::NotStanding);
-        };
-        if column >= self.columns.count {
+        self.ask_length(memory)?;
+        let record = self
+            .standing_record(memory, entry.row)
+            .ok_or(Refusal::NotStanding)?;
+        if entry.column >= self.columns.count {
             return Err(Refusal::NoSuchColumn);
         }
-        Ok(record.numbers[column])
+        Ok(record.numbers[entry.column])
     }
 
-    pub(crate) fn count(&self, memory: &[Row]) -> Result<(usize, usize), Refusal>
+    pub(crate) fn count(&self, memory: &[Row]) -> Result<Tally, Refusal>
         ensures { result ≡ tally_answer (plain_setup self.now) self.now.taken memory.now }
     {
-        if memory.len() != self.records {
-            return Err(Refusal::MemoryLength);
-        }
-        Ok((self.taken, marks(given_out(memory, self.taken))))
+        self.ask_length(memory)?;
+        Ok(Tally {
+            taken: self.taken,
+            standing: marks(self.given_out(memory)),
+        })
     }
 
     pub(crate) fn turn_code<Y: Coding, H: Coding>(
         &self,
         memory: &[Row],
-        yarn: &Y,
-        hands: &H,
-        row: usize,
-        column: usize,
+        codings: &ColumnCodings<Y, H>,
+        entry: Entry,
     ) -> Result<u64, Refusal>
-        ensures { result ≡ turn_back_answer (setup_of self.now (Y.Coding.means yarn.now) (H.Coding.means hands.now)) self.now.taken memory.now row column }
+        ensures { result ≡ turn_back_answer (setup_of self.now (meanings_of Y.means H.means codings.now)) self.now.taken memory.now entry }
     {
-        let code = self.show_code(memory, row, column)?;
-        back_in(self.columns.roles[column], yarn, hands, code)
+        let code = self.show_code(memory, entry)?;
+        codings.back_in(self.columns.roles[entry.column], code)
     }
 }
 
@@ -137,27 +128,12 @@ impl Plain {
 pub(crate) fn blank_all(memory: &mut [Row])
     ensures { memory.new ≡ replicate (length memory.old) blank }
 {
-    for record in memory.iter_mut() {
-        *record = BLANK;
-    }
-}
-
-// The records of the places taken.
-fn given_out(memory: &[Row], taken: usize) -> &[Row]
-    ensures { result.now ≡ take taken memory.now }
-{
-    &memory[0..taken.min(memory.len())]
+    memory.fill(Row::BLANK);
 }
 
 // How many records have the mark.
 fn marks(records: &[Row]) -> usize
     ensures { result ≡ count_marks records.now }
 {
-    let mut standing = 0;
-    for record in records {
-        if record.standing {
-            standing += 1;
-        }
-    }
-    standing
+    records.iter().filter(|record| record.standing).count()
 }

@@ -1,8 +1,11 @@
 // What the trials share.
+use book::entry::Entry;
 use book::refusal::Refusal;
 use book::row::Row;
+use book::tally::Tally;
 use codings::plus::Plus;
-use release::open::Open;
+use release::column_codings::ColumnCodings;
+use release::states::{Open, Release};
 use std::process::Abort;
 use std::test::Fail;
 
@@ -12,45 +15,35 @@ pub(crate) const DIRTY: Row = Row {
     standing: true,
 };
 
-// The yarn coding has top 9 and adds 3, the hands coding has top 99 and adds 7.
-#[derive(Clone, Copy)]
-pub(crate) struct Codings {
-    pub(crate) yarn: Plus,
-    pub(crate) hands: Plus,
+// The record of a standing row.
+pub(crate) fn standing(numbers: [u64; 8]) -> Row {
+    Row {
+        numbers,
+        standing: true,
+    }
 }
 
+pub(crate) fn entry(row: usize, column: usize) -> Entry {
+    Entry { row, column }
+}
+
+pub(crate) fn tally(taken: usize, standing: usize) -> Tally {
+    Tally { taken, standing }
+}
+
+pub(crate) type Codings = ColumnCodings<Plus, Plus>;
+
+// The yarn coding has top 9 and adds 3, the hands coding has top 99 and adds 7.
 pub(crate) fn both_codings() -> Result<Codings, Fail> {
-    Ok(Codings {
+    Ok(ColumnCodings {
         yarn: Plus::new(9, 3)?,
         hands: Plus::new(99, 7)?,
     })
 }
 
 // A release that is expected to open.
-pub(crate) fn opened(letters: &[char], memory: &mut [Row]) -> Result<Open, Fail> {
-    match Open::open(letters, memory) {
-        Ok(release) => Ok(release),
-        Err(refusal) => Err(Fail::new(refusal.words())),
-    }
-}
-
-// An opening that is expected to be refused.
-pub(crate) fn unopened(
-    rt: &impl Abort,
-    letters: &[char],
-    memory: &mut [Row],
-    refusal: Refusal,
-) -> Result<(), Fail> {
-    match Open::open(letters, memory) {
-        Ok(release) => {
-            release.scrap(memory);
-            Err(Fail::new("a release was opened"))
-        }
-        Err(told) => {
-            assert_eq!(rt; told, refusal);
-            Ok(())
-        },
-    }
+pub(crate) fn opened(letters: &[char], memory: &mut [Row]) -> Result<Release<Open>, Fail> {
+    Ok(Release::open(letters, memory)?)
 }
 
 // Opens a release and scraps it.
@@ -60,35 +53,21 @@ pub(crate) fn opens(letters: &[char], memory: &mut [Row]) -> Result<(), Fail> {
     Ok(())
 }
 
-// Puts a row with the codings of the trials.
-pub(crate) fn put(
-    release: &mut Open,
-    memory: &mut [Row],
-    with: Codings,
-    numbers: &[u64],
-) -> Result<usize, Refusal> {
-    release.put(memory, &with.yarn, &with.hands, numbers)
-}
-
-// Turns a code back with the codings of the trials.
-pub(crate) fn turn_back(
-    release: &Open,
-    memory: &[Row],
-    with: Codings,
-    row: usize,
-    column: usize,
-) -> Result<u64, Refusal> {
-    release.turn_back(memory, &with.yarn, &with.hands, row, column)
-}
-
-// The record has these numbers, and the mark or not.
-pub(crate) fn check_record(
+// An opening that is expected to be refused.
+pub(crate) fn unopened(
     rt: &impl Abort,
-    record: Row,
-    numbers: [u64; 8],
-    standing: bool,
+    letters: &[char],
+    memory: &mut [Row],
+    refusal: Refusal,
 ) -> Result<(), Fail> {
-    assert_eq!(rt; record.numbers, numbers);
-    assert_eq!(rt; record.standing, standing);
-    Ok(())
+    match Release::open(letters, memory) {
+        Ok(release) => {
+            release.scrap(memory);
+            Err(Fail::new("a release was opened"))
+        }
+        Err(told) => {
+            assert_eq!(rt; told, refusal);
+            Ok(())
+        },
+    }
 }

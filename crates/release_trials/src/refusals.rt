@@ -2,7 +2,7 @@
 use crate::bench::*;
 use book::refusal::Refusal;
 use book::row::Row;
-use release::open::Open;
+use release::states::{Open, Release};
 use std::process::Abort;
 use std::test::Fail;
 
@@ -34,37 +34,27 @@ fn memory_length(rt: HostRuntime) -> Result<(), Fail> {
     let with = both_codings()?;
     let mut memory = [DIRTY; 2];
     let mut release = opened(&['Y'], &mut memory)?;
-    let told = other_lengths(&rt, &mut release, &mut memory, with);
-    release.scrap(&mut memory);
-    told
-}
-
-fn other_lengths(
-    rt: &impl Abort,
-    release: &mut Open,
-    memory: &mut [Row; 2],
-    with: Codings,
-) -> Result<(), Fail> {
-    assert_eq!(rt; put(release, memory, with, &[5]), Ok(1));
-    let [first, second] = *memory;
+    assert_eq!(rt; release.put(&mut memory, &with, &[5]), Ok(1));
+    let [first, second] = memory;
     let mut more = [first, second, DIRTY];
-    all_refused(rt, release, &mut [first], with);
-    all_refused(rt, release, &mut more, with);
-    check_record(rt, more[0], first.numbers, true)?;
-    check_record(rt, more[2], [9; 8], true)?;
-    assert_eq!(rt; release.tally(memory), Ok((1, 1)));
+    all_refused(&rt, &mut release, &mut [first], &with);
+    all_refused(&rt, &mut release, &mut more, &with);
+    assert_eq!(rt; more[0], standing(first.numbers));
+    assert_eq!(rt; more[2], DIRTY);
+    assert_eq!(rt; release.tally(&memory), Ok(tally(1, 1)));
+    release.scrap(&mut memory);
     Ok(())
 }
 
-fn all_refused(rt: &impl Abort, release: &mut Open, memory: &mut [Row], with: Codings) {
+fn all_refused(rt: &impl Abort, release: &mut Release<Open>, memory: &mut [Row], with: &Codings) {
+    assert_eq!(rt; release.put(memory, with, &[5]), Err(Refusal::MemoryLength));
+    assert_eq!(rt; release.withdraw(memory, 1), Err(Refusal::MemoryLength));
     assert_eq!(rt;
-        put(release, memory, with, &[5]),
+        release.show(memory, entry(1, 0)),
         Err(Refusal::MemoryLength)
     );
-    assert_eq!(rt; release.withdraw(memory, 1), Err(Refusal::MemoryLength));
-    assert_eq!(rt; release.show(memory, 1, 0), Err(Refusal::MemoryLength));
     assert_eq!(rt;
-        turn_back(release, memory, with, 1, 0),
+        release.turn_back(memory, with, entry(1, 0)),
         Err(Refusal::MemoryLength)
     );
     assert_eq!(rt; release.tally(memory), Err(Refusal::MemoryLength));
@@ -76,44 +66,36 @@ fn putting(rt: HostRuntime) -> Result<(), Fail> {
     let with = both_codings()?;
     let mut memory = [DIRTY; 2];
     let mut release = opened(&['Y', 'H', 'C'], &mut memory)?;
-    let told = two_rows(&rt, &mut release, &mut memory, with);
-    release.scrap(&mut memory);
-    told
-}
-
-// What is refused after the first row changes neither row memory nor the tally.
-fn two_rows(
-    rt: &impl Abort,
-    release: &mut Open,
-    memory: &mut [Row; 2],
-    with: Codings,
-) -> Result<(), Fail> {
-    assert_eq!(rt; put(release, memory, with, &[9, 99, u64::MAX]), Ok(1));
+    assert_eq!(rt; release.put(&mut memory, &with, &[9, 99, u64::MAX]), Ok(1));
+    // What is refused after the first row changes neither row memory nor the tally.
     assert_eq!(rt;
-        put(release, memory, with, &[1, 1]),
+        release.put(&mut memory, &with, &[1, 1]),
         Err(Refusal::NumberCount)
     );
     assert_eq!(rt;
-        put(release, memory, with, &[1, 1, 1, 1]),
+        release.put(&mut memory, &with, &[1, 1, 1, 1]),
         Err(Refusal::NumberCount)
     );
     assert_eq!(rt;
-        put(release, memory, with, &[10, 1, 1]),
+        release.put(&mut memory, &with, &[10, 1, 1]),
         Err(Refusal::AboveTop)
     );
     assert_eq!(rt;
-        put(release, memory, with, &[1, 100, 1]),
+        release.put(&mut memory, &with, &[1, 100, 1]),
         Err(Refusal::AboveTop)
     );
-    check_record(rt, memory[0], [2, 6, u64::MAX, 0, 0, 0, 0, 0], true)?;
-    check_record(rt, memory[1], [0; 8], false)?;
-    assert_eq!(rt; release.tally(memory), Ok((1, 1)));
-    assert_eq!(rt; put(release, memory, with, &[0, 0, 0]), Ok(2));
     assert_eq!(rt;
-        put(release, memory, with, &[0, 0, 0]),
+        memory,
+        [standing([2, 6, u64::MAX, 0, 0, 0, 0, 0]), Row::BLANK]
+    );
+    assert_eq!(rt; release.tally(&memory), Ok(tally(1, 1)));
+    assert_eq!(rt; release.put(&mut memory, &with, &[0, 0, 0]), Ok(2));
+    assert_eq!(rt;
+        release.put(&mut memory, &with, &[0, 0, 0]),
         Err(Refusal::NoPlaceFree)
     );
-    assert_eq!(rt; release.tally(memory), Ok((2, 2)));
+    assert_eq!(rt; release.tally(&memory), Ok(tally(2, 2)));
+    release.scrap(&mut memory);
     Ok(())
 }
 
@@ -123,30 +105,26 @@ fn rows_that_stand(rt: HostRuntime) -> Result<(), Fail> {
     let with = both_codings()?;
     let mut memory = [DIRTY; 3];
     let mut release = opened(&['C', 'C'], &mut memory)?;
-    let told = second_stands(&rt, &mut release, &mut memory, with);
-    release.scrap(&mut memory);
-    told
-}
-
-fn second_stands(
-    rt: &impl Abort,
-    release: &mut Open,
-    memory: &mut [Row; 3],
-    with: Codings,
-) -> Result<(), Fail> {
-    assert_eq!(rt; put(release, memory, with, &[6, 7]), Ok(1));
-    assert_eq!(rt; put(release, memory, with, &[8, 9]), Ok(2));
-    assert_eq!(rt; release.withdraw(memory, 1), Ok(()));
+    assert_eq!(rt; release.put(&mut memory, &with, &[6, 7]), Ok(1));
+    assert_eq!(rt; release.put(&mut memory, &with, &[8, 9]), Ok(2));
+    assert_eq!(rt; release.withdraw(&mut memory, 1), Ok(()));
     for row in [0, 1, 3, 4, usize::MAX] {
-        assert_eq!(rt; release.withdraw(memory, row), Err(Refusal::NotStanding));
-        assert_eq!(rt; release.show(memory, row, 0), Err(Refusal::NotStanding));
         assert_eq!(rt;
-            turn_back(release, memory, with, row, 0),
+            release.withdraw(&mut memory, row),
+            Err(Refusal::NotStanding)
+        );
+        assert_eq!(rt;
+            release.show(&memory, entry(row, 0)),
+            Err(Refusal::NotStanding)
+        );
+        assert_eq!(rt;
+            release.turn_back(&memory, &with, entry(row, 0)),
             Err(Refusal::NotStanding)
         );
     }
-    check_record(rt, memory[1], [8, 9, 0, 0, 0, 0, 0, 0], true)?;
-    assert_eq!(rt; release.tally(memory), Ok((2, 1)));
+    assert_eq!(rt; memory[1], standing([8, 9, 0, 0, 0, 0, 0, 0]));
+    assert_eq!(rt; release.tally(&memory), Ok(tally(2, 1)));
+    release.scrap(&mut memory);
     Ok(())
 }
 
@@ -156,26 +134,19 @@ fn columns_that_are_there(rt: HostRuntime) -> Result<(), Fail> {
     let with = both_codings()?;
     let mut memory = [DIRTY; 1];
     let mut release = opened(&['C', 'C'], &mut memory)?;
-    let told = two_columns(&rt, &mut release, &mut memory, with);
-    release.scrap(&mut memory);
-    told
-}
-
-fn two_columns(
-    rt: &impl Abort,
-    release: &mut Open,
-    memory: &mut [Row],
-    with: Codings,
-) -> Result<(), Fail> {
-    assert_eq!(rt; put(release, memory, with, &[6, 7]), Ok(1));
-    assert_eq!(rt; release.show(memory, 1, 1), Ok(7));
-    assert_eq!(rt; turn_back(release, memory, with, 1, 1), Ok(7));
+    assert_eq!(rt; release.put(&mut memory, &with, &[6, 7]), Ok(1));
+    assert_eq!(rt; release.show(&memory, entry(1, 1)), Ok(7));
+    assert_eq!(rt; release.turn_back(&memory, &with, entry(1, 1)), Ok(7));
     for column in [2, 7, 8, usize::MAX] {
-        assert_eq!(rt; release.show(memory, 1, column), Err(Refusal::NoSuchColumn));
         assert_eq!(rt;
-            turn_back(release, memory, with, 1, column),
+            release.show(&memory, entry(1, column)),
+            Err(Refusal::NoSuchColumn)
+        );
+        assert_eq!(rt;
+            release.turn_back(&memory, &with, entry(1, column)),
             Err(Refusal::NoSuchColumn)
         );
     }
+    release.scrap(&mut memory);
     Ok(())
 }

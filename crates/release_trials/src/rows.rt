@@ -2,8 +2,6 @@
 use crate::bench::*;
 use book::refusal::Refusal;
 use book::row::Row;
-use release::open::Open;
-use std::process::Abort;
 use std::test::Fail;
 
 // A refused opening leaves row memory as it was, and an accepted one sets all of it to zero.
@@ -12,18 +10,11 @@ fn memory_of_an_opening(rt: HostRuntime) -> Result<(), Fail> {
     let mut memory = [DIRTY; 2];
     unopened(&rt, &[], &mut memory, Refusal::Columns)?;
     unopened(&rt, &['C', 'X'], &mut memory, Refusal::RoleLetter)?;
-    check_record(&rt, memory[0], [9; 8], true)?;
-    check_record(&rt, memory[1], [9; 8], true)?;
+    assert_eq!(rt; memory, [DIRTY; 2]);
     let release = opened(&['C'], &mut memory)?;
-    let told = both_blank(&rt, &release, &memory);
+    assert_eq!(rt; memory, [Row::BLANK; 2]);
+    assert_eq!(rt; release.tally(&memory), Ok(tally(0, 0)));
     release.scrap(&mut memory);
-    told
-}
-
-fn both_blank(rt: &impl Abort, release: &Open, memory: &[Row; 2]) -> Result<(), Fail> {
-    check_record(rt, memory[0], [0; 8], false)?;
-    check_record(rt, memory[1], [0; 8], false)?;
-    assert_eq!(rt; release.tally(memory), Ok((0, 0)));
     Ok(())
 }
 
@@ -33,27 +24,16 @@ fn codes_of_a_row(rt: HostRuntime) -> Result<(), Fail> {
     let with = both_codings()?;
     let mut memory = [DIRTY; 2];
     let mut release = opened(&['Y', 'H', 'C'], &mut memory)?;
-    let told = three_codes(&rt, &mut release, &mut memory, with);
-    release.scrap(&mut memory);
-    told
-}
-
-fn three_codes(
-    rt: &impl Abort,
-    release: &mut Open,
-    memory: &mut [Row; 2],
-    with: Codings,
-) -> Result<(), Fail> {
-    assert_eq!(rt; put(release, memory, with, &[5, 5, 5]), Ok(1));
-    check_record(rt, memory[0], [8, 12, 5, 0, 0, 0, 0, 0], true)?;
-    check_record(rt, memory[1], [0; 8], false)?;
-    assert_eq!(rt; release.show(memory, 1, 0), Ok(8));
-    assert_eq!(rt; release.show(memory, 1, 1), Ok(12));
-    assert_eq!(rt; release.show(memory, 1, 2), Ok(5));
+    assert_eq!(rt; release.put(&mut memory, &with, &[5, 5, 5]), Ok(1));
+    assert_eq!(rt; memory, [standing([8, 12, 5, 0, 0, 0, 0, 0]), Row::BLANK]);
+    assert_eq!(rt; release.show(&memory, entry(1, 0)), Ok(8));
+    assert_eq!(rt; release.show(&memory, entry(1, 1)), Ok(12));
+    assert_eq!(rt; release.show(&memory, entry(1, 2)), Ok(5));
     for column in 0..3usize {
-        assert_eq!(rt; turn_back(release, memory, with, 1, column), Ok(5));
+        assert_eq!(rt; release.turn_back(&memory, &with, entry(1, column)), Ok(5));
     }
-    assert_eq!(rt; release.tally(memory), Ok((1, 1)));
+    assert_eq!(rt; release.tally(&memory), Ok(tally(1, 1)));
+    release.scrap(&mut memory);
     Ok(())
 }
 
@@ -63,27 +43,19 @@ fn withdrawing(rt: HostRuntime) -> Result<(), Fail> {
     let with = both_codings()?;
     let mut memory = [DIRTY; 2];
     let mut release = opened(&['C'], &mut memory)?;
-    let told = place_kept_free(&rt, &mut release, &mut memory, with);
+    assert_eq!(rt; release.put(&mut memory, &with, &[6]), Ok(1));
+    assert_eq!(rt; release.withdraw(&mut memory, 1), Ok(()));
+    assert_eq!(rt; memory[0], Row::BLANK);
+    assert_eq!(rt; release.tally(&memory), Ok(tally(1, 0)));
+    assert_eq!(rt; release.put(&mut memory, &with, &[7]), Ok(2));
+    assert_eq!(rt; memory, [Row::BLANK, standing([7, 0, 0, 0, 0, 0, 0, 0])]);
+    assert_eq!(rt;
+        release.put(&mut memory, &with, &[8]),
+        Err(Refusal::NoPlaceFree)
+    );
+    assert_eq!(rt; memory[0], Row::BLANK);
+    assert_eq!(rt; release.tally(&memory), Ok(tally(2, 1)));
     release.scrap(&mut memory);
-    told
-}
-
-fn place_kept_free(
-    rt: &impl Abort,
-    release: &mut Open,
-    memory: &mut [Row; 2],
-    with: Codings,
-) -> Result<(), Fail> {
-    assert_eq!(rt; put(release, memory, with, &[6]), Ok(1));
-    assert_eq!(rt; release.withdraw(memory, 1), Ok(()));
-    check_record(rt, memory[0], [0; 8], false)?;
-    assert_eq!(rt; release.tally(memory), Ok((1, 0)));
-    assert_eq!(rt; put(release, memory, with, &[7]), Ok(2));
-    check_record(rt, memory[0], [0; 8], false)?;
-    check_record(rt, memory[1], [7, 0, 0, 0, 0, 0, 0, 0], true)?;
-    assert_eq!(rt; put(release, memory, with, &[8]), Err(Refusal::NoPlaceFree));
-    check_record(rt, memory[0], [0; 8], false)?;
-    assert_eq!(rt; release.tally(memory), Ok((2, 1)));
     Ok(())
 }
 
@@ -93,28 +65,21 @@ fn set_by_hand(rt: HostRuntime) -> Result<(), Fail> {
     let with = both_codings()?;
     let mut memory = [DIRTY; 2];
     let mut release = opened(&['Y'], &mut memory)?;
-    let told = by_hand(&rt, &mut release, &mut memory, with);
-    release.scrap(&mut memory);
-    told
-}
-
-fn by_hand(
-    rt: &impl Abort,
-    release: &mut Open,
-    memory: &mut [Row; 2],
-    with: Codings,
-) -> Result<(), Fail> {
-    assert_eq!(rt; put(release, memory, with, &[1]), Ok(1));
+    assert_eq!(rt; release.put(&mut memory, &with, &[1]), Ok(1));
     memory[1].standing = true;
-    assert_eq!(rt; release.show(memory, 2, 0), Err(Refusal::NotStanding));
-    assert_eq!(rt; release.withdraw(memory, 2), Err(Refusal::NotStanding));
-    assert_eq!(rt; release.tally(memory), Ok((1, 1)));
-    memory[0].numbers[0] = 10;
-    assert_eq!(rt; release.show(memory, 1, 0), Ok(10));
     assert_eq!(rt;
-        turn_back(release, memory, with, 1, 0),
+        release.show(&memory, entry(2, 0)),
+        Err(Refusal::NotStanding)
+    );
+    assert_eq!(rt; release.withdraw(&mut memory, 2), Err(Refusal::NotStanding));
+    assert_eq!(rt; release.tally(&memory), Ok(tally(1, 1)));
+    memory[0].numbers[0] = 10;
+    assert_eq!(rt; release.show(&memory, entry(1, 0)), Ok(10));
+    assert_eq!(rt;
+        release.turn_back(&memory, &with, entry(1, 0)),
         Err(Refusal::AboveTop)
     );
+    release.scrap(&mut memory);
     Ok(())
 }
 
@@ -124,28 +89,26 @@ fn sealing(rt: HostRuntime) -> Result<(), Fail> {
     let with = both_codings()?;
     let mut memory = [DIRTY; 3];
     let mut release = opened(&['Y'], &mut memory)?;
-    let told = two_put_one_withdrawn(&rt, &mut release, &mut memory, with);
+    assert_eq!(rt; release.put(&mut memory, &with, &[5]), Ok(1));
+    assert_eq!(rt; release.put(&mut memory, &with, &[7]), Ok(2));
+    assert_eq!(rt; release.withdraw(&mut memory, 2), Ok(()));
+    assert_eq!(rt; release.show(&memory, entry(1, 0)), Ok(8));
+    assert_eq!(rt;
+        release.show(&memory, entry(2, 0)),
+        Err(Refusal::NotStanding)
+    );
+    assert_eq!(rt; release.tally(&memory), Ok(tally(2, 1)));
     let sealed = release.seal();
-    told?;
-    assert_eq!(rt; sealed.show(&memory, 1, 0), Ok(8));
-    assert_eq!(rt; sealed.show(&memory, 2, 0), Err(Refusal::NotStanding));
-    assert_eq!(rt; sealed.show(&memory, 1, 1), Err(Refusal::NoSuchColumn));
-    assert_eq!(rt; sealed.tally(&memory), Ok((2, 1)));
-    Ok(())
-}
-
-fn two_put_one_withdrawn(
-    rt: &impl Abort,
-    release: &mut Open,
-    memory: &mut [Row],
-    with: Codings,
-) -> Result<(), Fail> {
-    assert_eq!(rt; put(release, memory, with, &[5]), Ok(1));
-    assert_eq!(rt; put(release, memory, with, &[7]), Ok(2));
-    assert_eq!(rt; release.withdraw(memory, 2), Ok(()));
-    assert_eq!(rt; release.show(memory, 1, 0), Ok(8));
-    assert_eq!(rt; release.show(memory, 2, 0), Err(Refusal::NotStanding));
-    assert_eq!(rt; release.tally(memory), Ok((2, 1)));
+    assert_eq!(rt; sealed.show(&memory, entry(1, 0)), Ok(8));
+    assert_eq!(rt;
+        sealed.show(&memory, entry(2, 0)),
+        Err(Refusal::NotStanding)
+    );
+    assert_eq!(rt;
+        sealed.show(&memory, entry(1, 1)),
+        Err(Refusal::NoSuchColumn)
+    );
+    assert_eq!(rt; sealed.tally(&memory), Ok(tally(2, 1)));
     Ok(())
 }
 
@@ -155,16 +118,13 @@ fn scrapping(rt: HostRuntime) -> Result<(), Fail> {
     let with = both_codings()?;
     let mut memory = [DIRTY; 2];
     let mut release = opened(&['C'], &mut memory)?;
-    let told = put(&mut release, &mut memory, with, &[6]);
+    let told = release.put(&mut memory, &with, &[6]);
     release.scrap(&mut memory);
     assert_eq!(rt; told, Ok(1));
-    check_record(&rt, memory[0], [0; 8], false)?;
-    check_record(&rt, memory[1], [0; 8], false)?;
+    assert_eq!(rt; memory, [Row::BLANK; 2]);
     let release = opened(&['C'], &mut memory)?;
     let mut longer = [DIRTY; 3];
     release.scrap(&mut longer);
-    for record in longer {
-        check_record(&rt, record, [0; 8], false)?;
-    }
+    assert_eq!(rt; longer, [Row::BLANK; 3]);
     Ok(())
 }

@@ -1,9 +1,6 @@
 // A call that could be refused for two reasons is refused for the earlier one.
 use crate::bench::*;
 use book::refusal::Refusal;
-use book::row::Row;
-use release::open::Open;
-use std::process::Abort;
 use std::test::Fail;
 
 // Opening asks for the columns, then the letters, then the row records.
@@ -22,30 +19,20 @@ fn putting(rt: HostRuntime) -> Result<(), Fail> {
     let with = both_codings()?;
     let mut memory = [DIRTY; 1];
     let mut release = opened(&['Y'], &mut memory)?;
-    let told = on_a_full_release(&rt, &mut release, &mut memory, with);
-    release.scrap(&mut memory);
-    told
-}
-
-fn on_a_full_release(
-    rt: &impl Abort,
-    release: &mut Open,
-    memory: &mut [Row],
-    with: Codings,
-) -> Result<(), Fail> {
-    assert_eq!(rt; put(release, memory, with, &[1]), Ok(1));
+    assert_eq!(rt; release.put(&mut memory, &with, &[1]), Ok(1));
     assert_eq!(rt;
-        put(release, &mut [DIRTY; 2], with, &[10, 10]),
+        release.put(&mut [DIRTY; 2], &with, &[10, 10]),
         Err(Refusal::MemoryLength)
     );
     assert_eq!(rt;
-        put(release, memory, with, &[10, 10]),
+        release.put(&mut memory, &with, &[10, 10]),
         Err(Refusal::NumberCount)
     );
     assert_eq!(rt;
-        put(release, memory, with, &[10]),
+        release.put(&mut memory, &with, &[10]),
         Err(Refusal::NoPlaceFree)
     );
+    release.scrap(&mut memory);
     Ok(())
 }
 
@@ -55,39 +42,32 @@ fn asking(rt: HostRuntime) -> Result<(), Fail> {
     let with = both_codings()?;
     let mut memory = [DIRTY; 1];
     let mut release = opened(&['Y'], &mut memory)?;
-    let told = with_a_high_code(&rt, &mut release, &mut memory, with);
-    release.scrap(&mut memory);
-    told
-}
-
-// The code, and what stands after the last column, is above the yarn coding's top.
-fn with_a_high_code(
-    rt: &impl Abort,
-    release: &mut Open,
-    memory: &mut [Row; 1],
-    with: Codings,
-) -> Result<(), Fail> {
-    assert_eq!(rt; put(release, memory, with, &[1]), Ok(1));
+    assert_eq!(rt; release.put(&mut memory, &with, &[1]), Ok(1));
+    // The code, and what stands after the last column, is above the yarn coding's top.
     memory[0].numbers = [10; 8];
     let mut two = [DIRTY; 2];
     assert_eq!(rt; release.withdraw(&mut two, 0), Err(Refusal::MemoryLength));
-    assert_eq!(rt; release.show(&two, 0, 1), Err(Refusal::MemoryLength));
+    assert_eq!(rt; release.show(&two, entry(0, 1)), Err(Refusal::MemoryLength));
     assert_eq!(rt;
-        turn_back(release, &two, with, 0, 1),
+        release.turn_back(&two, &with, entry(0, 1)),
         Err(Refusal::MemoryLength)
     );
-    assert_eq!(rt; release.show(memory, 2, 1), Err(Refusal::NotStanding));
     assert_eq!(rt;
-        turn_back(release, memory, with, 2, 1),
+        release.show(&memory, entry(2, 1)),
         Err(Refusal::NotStanding)
     );
     assert_eq!(rt;
-        turn_back(release, memory, with, 1, 1),
+        release.turn_back(&memory, &with, entry(2, 1)),
+        Err(Refusal::NotStanding)
+    );
+    assert_eq!(rt;
+        release.turn_back(&memory, &with, entry(1, 1)),
         Err(Refusal::NoSuchColumn)
     );
     assert_eq!(rt;
-        turn_back(release, memory, with, 1, 0),
+        release.turn_back(&memory, &with, entry(1, 0)),
         Err(Refusal::AboveTop)
     );
+    release.scrap(&mut memory);
     Ok(())
 }

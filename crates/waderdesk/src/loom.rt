@@ -1,49 +1,51 @@
 // A small release of loom records: a yarn colour, a weaver and a loom for each row, coded by two piles. Every way
 // out seals the release or scraps it.
 use book::call::{Answer, Call};
+use book::entry::Entry;
 use book::refusal::Refusal;
 use book::row::Row;
+use book::tally::Tally;
 use codings::coding::Coding;
 use codings::plus::Plus;
 use piles::pile::Pile;
+use release::column_codings::ColumnCodings;
 use release::open_and_call;
-use release::ran::{Ran, Unopened};
-use release::sealed::Sealed;
-use std::alloc::Global;
+use release::ran::Ran;
+use release::states::{Release, Sealed};
 use std::io;
 
 const ROLES: [char; 3] = ['Y', 'H', 'C'];
 
-const BLANK: Row = Row {
-    numbers: [0; 8],
-    standing: false,
-};
-
 // Opens a release over four row records, makes the calls of the day, tells the answers, and seals it.
-pub fn keep_release(rt: &HostRuntime, yarn: &Pile<Plus>, hands: &Pile<Plus>) -> anyhow::Result<()> {
+pub fn keep_release(
+    rt: &HostRuntime,
+    codings: &ColumnCodings<Pile<Plus>, Pile<Plus>>,
+) -> anyhow::Result<()> {
     let calls = [
         Call::Put(&[376, 17, 4]),
         Call::Put(&[377, 17, 5]),
         Call::Put(&[750, 18, 5]),
         Call::Put(&[376, 18, 4]),
         Call::Withdraw(2),
-        Call::Show(1, 0),
-        Call::Show(3, 0),
-        Call::TurnBack(3, 1),
-        Call::Show(2, 0),
+        Call::Show(Entry { row: 1, column: 0 }),
+        Call::Show(Entry { row: 3, column: 0 }),
+        Call::TurnBack(Entry { row: 3, column: 1 }),
+        Call::Show(Entry { row: 2, column: 0 }),
         Call::Tally,
     ];
-    let mut memory = [BLANK; 4];
+    let mut memory = [Row::BLANK; 4];
     let Ran { release, answers } = match open_and_call(
         rt.alloc(),
         &ROLES,
         &mut memory,
-        yarn,
-        hands,
+        codings,
         &calls,
     ) {
         Ok(ran) => ran,
-        Err(reason) => return tell_unopened(rt, reason),
+        Err(reason) => {
+            println!(rt; "no release: {reason}")?;
+            return Ok(());
+        }
     };
     if let Err(error) = tell_answers(rt, &calls, &answers) {
         release.scrap(&mut memory);
@@ -53,19 +55,18 @@ pub fn keep_release(rt: &HostRuntime, yarn: &Pile<Plus>, hands: &Pile<Plus>) -> 
     Ok(())
 }
 
-fn tell_unopened(rt: &impl Print, reason: Unopened) -> anyhow::Result<()> {
-    match reason {
-        Unopened::Refused(refusal) => tell_refusal(rt, "no release", refusal)?,
-        Unopened::NoMemory => println!(rt; "no release: there is no memory for its answers")?,
-    }
-    Ok(())
-}
-
-fn tell_answers(rt: &impl Print, calls: &[Call<'_>], answers: &[Answer]) -> io::Result<()> {
+fn tell_answers(
+    rt: &impl Print,
+    calls: &[Call<'_>],
+    answers: &[Result<Answer, Refusal>],
+) -> io::Result<()> {
     println!(rt; "a release of yarn, hands and a clear column over 4 row records:")?;
     for (call, answer) in calls.iter().zip(answers) {
         tell_call(rt, *call)?;
-        tell_answer(rt, *answer)?;
+        match answer {
+            Ok(answer) => tell_answer(rt, *answer)?,
+            Err(refusal) => tell_refused(rt, *refusal)?,
+        }
     }
     Ok(())
 }
@@ -74,8 +75,10 @@ fn tell_call(rt: &impl Print, call: Call<'_>) -> io::Result<()> {
     match call {
         Call::Put(numbers) => print!(rt; "  put {numbers:?}: "),
         Call::Withdraw(row) => print!(rt; "  withdraw row {row}: "),
-        Call::Show(row, column) => print!(rt; "  show row {row} column {column}: "),
-        Call::TurnBack(row, column) => print!(rt; "  turn back row {row} column {column}: "),
+        Call::Show(Entry { row, column }) => print!(rt; "  show row {row} column {column}: "),
+        Call::TurnBack(Entry { row, column }) => print!(rt;
+            "  turn back row {row} column {column}: "
+        ),
         Call::Tally => print!(rt; "  tally: "),
     }
 }
@@ -86,10 +89,9 @@ fn tell_answer(rt: &impl Print, answer: Answer) -> io::Result<()> {
         Answer::Withdrawn => println!(rt; "done"),
         Answer::Shown(code) => println!(rt; "code {code}"),
         Answer::TurnedBack(number) => println!(rt; "number {number}"),
-        Answer::Tally(taken, standing) => println!(rt;
+        Answer::Tally(Tally { taken, standing }) => println!(rt;
             "{taken} places taken, {standing} rows standing"
         ),
-        Answer::Refused(refusal) => tell_refused(rt, refusal),
     }
 }
 
@@ -103,13 +105,13 @@ fn tell_refusal(rt: &impl Print, what: &str, refusal: Refusal) -> io::Result<()>
     tell_refused(rt, refusal)
 }
 
-fn tell_sealed(rt: &impl Print, sealed: &Sealed, memory: &[Row]) -> io::Result<()> {
-    match sealed.show(memory, 1, 1) {
+fn tell_sealed(rt: &impl Print, sealed: &Release<Sealed>, memory: &[Row]) -> io::Result<()> {
+    match sealed.show(memory, Entry { row: 1, column: 1 }) {
         Ok(code) => println!(rt; "sealed: row 1 column 1 shows code {code}")?,
         Err(refusal) => tell_refusal(rt, "sealed: row 1 column 1", refusal)?,
     }
     match sealed.tally(memory) {
-        Ok((taken, standing)) => println!(rt;
+        Ok(Tally { taken, standing }) => println!(rt;
             "sealed: {taken} places taken, {standing} rows standing"
         ),
         Err(refusal) => tell_refusal(rt, "sealed: tally", refusal),

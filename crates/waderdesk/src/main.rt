@@ -11,6 +11,7 @@ use anyhow::anyhow;
 use colours::{colour_coding, hands_coding, tell_all};
 use drafts::{show_spoilt, tell_draft};
 use loom::keep_release;
+use release::column_codings::ColumnCodings;
 use std::env;
 
 const USAGE: &str = "usage: waderdesk [draft FILE | spoilt]";
@@ -19,7 +20,7 @@ fn show(rt: &HostRuntime) -> anyhow::Result<()> {
     let yarn = colour_coding(rt.alloc())?;
     tell_all(rt, &yarn)?;
     let hands = hands_coding(rt.alloc())?;
-    keep_release(rt, &yarn, &hands)
+    keep_release(rt, &ColumnCodings { yarn, hands })
 }
 
 // A task and what it is asked of.

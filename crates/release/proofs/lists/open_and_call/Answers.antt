@@ -1,8 +1,9 @@
+use Rattle.book.proofs.Kept.{coding_lawful}
 use Rattle.release.proofs.Promised.{list_done, ran_from}
 use Rattle.release.proofs.lists.open_and_call.Goals as goal
 
-pub returns-in-Ok-opened : goal.returns-in-Ok-opened
-returns-in-Ok-opened g c =
+pub returns : goal.returns
+returns g c =
     let made = c.make_all.ensures in
-    ran_from _ _ _ _ _ _ _ _ _ _ c.in-Ok-opened.ensures
-    (list_done _ _ _ _ (g.Y.Coding.lawful c.args.yarn.now) (g.H.Coding.lawful c.args.hands.now) _ _ _ _ made.answers made.state made.release)
+    ran_from _ _ _ _ _ _ _ _ _ c.in_ok-plain.ensures
+    (list_done _ _ _ (coding_lawful _ (g.Y.Coding.lawful c.args.codings.now.yarn) (g.H.Coding.lawful c.args.codings.now.hands)) _ _ _ _ _ c.in_ok-answers.ensures.items made.answers made.state made.release)

@@ -1,7 +1,7 @@
 use Rattle.std.proofs.Common.{refl, ap, ◌∙◌, arith}
 use Rattle.std.proofs.lemmas.List.{get_or_read}
 use Rattle.std.proofs.lemmas.Result.{err_from_is_err_and}
-use Rattle.release.specs.Opening.{role_read}
+use Rattle.book.specs.Roles.{role_read}
 use Rattle.release.proofs.Letters.{read_none, read_one, columns_good, columns_bad}
 use Rattle.release.proofs.opening.read_columns.Goals as goal
 
