@@ -1,5 +1,5 @@
 -- Questions before work is done: what a yes and an answer tell.
-use Rattle.std.proofs.Common.{◌≡◌, ℕ, Bool, true, false, Ok, Result, refl, arith}
+use Rattle.std.proofs.Common.{◌≡◌, ℕ, Bool, true, false, Ok, Err, Result, refl, arith}
 use Rattle.book.specs.declared.refusal.Refusal.{Refusal}
 use Rattle.book.specs.Refusals.{ask}
 
@@ -17,3 +17,8 @@ ask_same false r x y h = refl
 pub ask_ok : {X : Type 0} (t : Bool) (r : Refusal) (x : Result X Refusal) (n : X) → ask t r x ≡ Ok n → (t ≡ true) × (x ≡ Ok n)
 ask_ok true r x n h = (refl, h)
 ask_ok false r x n h = let z : ◌≡◌ {A = ℕ} 0 1 = cc in absurd (omega arith)
+
+-- what came of a question before work that cannot fail, where it refused
+pub ask_no : {X : Type 0} (t : Bool) (r : Refusal) (x : X) (e : Refusal) → ask t r (Ok x) ≡ Err e → (t ≡ false) × (e ≡ r)
+ask_no true r x e h = let z : ◌≡◌ {A = ℕ} 0 1 = cc in absurd (omega arith)
+ask_no false r x e h = (refl, cc)

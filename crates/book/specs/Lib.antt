@@ -4,3 +4,4 @@ pub mod Rows
 pub mod Raw
 pub mod Book
 pub mod Runs
+pub mod Shown

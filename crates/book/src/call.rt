@@ -1,6 +1,10 @@
 // The calls on an open release, and their answers.
+ghost use Rattle.std.specs.Prelude.{Some as Written};
+ghost use Rattle.book.specs.Shown.{answer_text, call_text};
+
 use crate::entry::Entry;
 use crate::tally::Tally;
+use std::fmt;
 
 #[derive(Clone, Copy, PartialEq, Eq, Debug)]
 pub enum Call<'a> {
@@ -25,4 +29,32 @@ pub enum Answer {
     Shown(u64),
     TurnedBack(u64),
     Tally(Tally),
+}
+
+impl fmt::Display for Answer {
+    ghost output = { λ answer. Written (answer_text answer) };
+
+    fn fmt<W: fmt::Write>(&self, f: &mut fmt::Formatter<W>) -> fmt::Result {
+        match self {
+            Answer::Put(row) => write!(f, "row {row}"),
+            Answer::Withdrawn => f.write_str("done"),
+            Answer::Shown(code) => write!(f, "code {code}"),
+            Answer::TurnedBack(number) => write!(f, "number {number}"),
+            Answer::Tally(tally) => write!(f, "{tally}"),
+        }
+    }
+}
+
+impl fmt::Display for Call<'_> {
+    ghost output = { call_text };
+
+    fn fmt<W: fmt::Write>(&self, f: &mut fmt::Formatter<W>) -> fmt::Result {
+        match self {
+            Call::Put(numbers) => write!(f, "put {numbers:?}"),
+            Call::Withdraw(row) => write!(f, "withdraw row {row}"),
+            Call::Show(entry) => write!(f, "show {entry}"),
+            Call::TurnBack(entry) => write!(f, "turn back {entry}"),
+            Call::Tally => f.write_str("tally"),
+        }
+    }
 }

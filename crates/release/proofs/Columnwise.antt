@@ -1,11 +1,11 @@
 -- The loop that codes a row column by column: what it keeps, and what it comes to.
-use Rattle.std.proofs.Common.{◌≡◌, ℕ, ◌+◌, ◌-◌, ◌<◌, ◌≤◌, min, ◌⊎◌, List, [], ◌∷◌, ◌++◌, length, get_or, take, drop, set, replicate, Ok, Err, Result, sym, refl, ap, ◌∙◌, inl, inr, append_assoc, arith, length-set, take-append-drop}
+use Rattle.std.proofs.Common.{◌≡◌, ℕ, ◌+◌, ◌-◌, ◌<◌, ◌≤◌, min, true, false, leb, ◌⊎◌, List, [], ◌∷◌, ◌++◌, length, get_or, take, drop, set, replicate, Ok, Err, Result, sym, refl, ap, ◌∙◌, inl, inr, append_assoc, arith, length-set, take-append-drop}
 use Rattle.std.proofs.lemmas.List.{drop_more, take_more_set, drop_all, drop-set-lt, drop-replicate, drop-drop}
 use Rattle.std.proofs.lemmas.List.{get_or_default}
 use Rattle.std.proofs.lemmas.List.FromFn.{length-enumerate_from, get_or-enumerate_from}
 use Rattle.std.proofs.lemmas.Slice.Zip.{length-zip, get_or-zip}
 use Rattle.std.specs.List.{zip, enumerate_from}
-use Rattle.std.proofs.lemmas.Bool.{cases_lt, le-leb, lt-leb}
+use Rattle.std.proofs.lemmas.Bool.{cases_lt}
 use Rattle.meanings.specs.Meaning.{Meaning}
 use Rattle.book.specs.declared.refusal.Refusal.{Refusal}
 use Rattle.book.specs.declared.refusal.Refusal.TheVariants.{AboveTop}
@@ -13,6 +13,7 @@ use Rattle.book.specs.declared.role.Role.{Role}
 use Rattle.book.specs.declared.role.Role.TheVariants.{Yarn}
 use Rattle.book.specs.Refusals.{ask}
 use Rattle.book.specs.Rows.{ColumnMeanings, coding_of, within, codes}
+use Rattle.book.proofs.Asking.{ask_ok, ask_no}
 use Rattle.book.proofs.Kept.{length_codes}
 use Rattle.release.specs.Coder.{one_coded, row_coded}
 
@@ -20,19 +21,11 @@ less : (j : ℕ) → 8 - j - 1 ≡ 8 - (j + 1)
 less j = omega arith
 
 -- what an answer of one column tells
-told_code : (m : Meaning) (x c : ℕ) → Ok c ≡ one_coded m x → (x ≤ m.top) × (c ≡ m.rule x)
-told_code m x c e = go (cases_lt m.top x)
-  where
-    go : (m.top < x) ⊎ (x ≤ m.top) → (x ≤ m.top) × (c ≡ m.rule x)
-    go (inl out) = let f : ◌≡◌ {A = Result ℕ Refusal} (Ok c) (Err AboveTop) = rw (lt-leb x m.top out) at e in let z : ◌≡◌ {A = ℕ} 0 1 = cc in absurd (omega arith)
-    go (inr ins) = let f : ◌≡◌ {A = Result ℕ Refusal} (Ok c) (Ok (m.rule x)) = rw (le-leb x m.top ins) at e in (ins, cc)
+told_code : (m : Meaning) (x c : ℕ) → Ok c ≡ one_coded m x → (leb x m.top ≡ true) × (c ≡ m.rule x)
+told_code m x c e = let p = ask_ok (leb x m.top) _ _ c (sym e) in (p.0, let f = p.1 in cc)
 
-told_above : (m : Meaning) (x : ℕ) (r : Refusal) → Err r ≡ one_coded m x → (m.top < x) × (r ≡ AboveTop)
-told_above m x r e = go (cases_lt m.top x)
-  where
-    go : (m.top < x) ⊎ (x ≤ m.top) → (m.top < x) × (r ≡ AboveTop)
-    go (inl out) = let f : ◌≡◌ {A = Result ℕ Refusal} (Err r) (Err AboveTop) = rw (lt-leb x m.top out) at e in (out, cc)
-    go (inr ins) = let f : ◌≡◌ {A = Result ℕ Refusal} (Err r) (Ok (m.rule x)) = rw (le-leb x m.top ins) at e in let z : ◌≡◌ {A = ℕ} 0 1 = cc in absurd (omega arith)
+told_above : (m : Meaning) (x : ℕ) (r : Refusal) → Err r ≡ one_coded m x → (leb x m.top ≡ false) × (r ≡ AboveTop)
+told_above m x r e = ask_no (leb x m.top) _ _ r (sym e)
 
 -- The columns that have a number.
 abbrev columns : List Role → List ℕ → ℕ
@@ -62,14 +55,14 @@ module _ (m : ColumnMeanings) where
   abbrev to_come : List Role → List ℕ → List ℕ → ℕ → Result (List ℕ) Refusal
   to_come rs xs cs n = ask (within m rs xs) AboveTop (Ok (cs ++ (codes m rs xs ++ replicate (8 - n) 0)))
 
-  to_come_code : (r : Role) (x : ℕ) (rs : List Role) (xs cs : List ℕ) (n : ℕ) → x ≤ (coding_of m r).top
+  to_come_code : (r : Role) (x : ℕ) (rs : List Role) (xs cs : List ℕ) (n : ℕ) → leb x (coding_of m r).top ≡ true
       → to_come (r ∷ rs) (x ∷ xs) cs n ≡ to_come rs xs (cs ++ (coding_of m r).rule x ∷ []) n
-  to_come_code r x rs xs cs n le =
-      rw (le-leb x (coding_of m r).top le) (ap (λ zs. ask (within m rs xs) AboveTop (Ok zs)) (sym (append_assoc cs ((coding_of m r).rule x ∷ []) (codes m rs xs ++ replicate (8 - n) 0))))
+  to_come_code r x rs xs cs n in_top =
+      rw in_top (ap (λ zs. ask (within m rs xs) AboveTop (Ok zs)) (sym (append_assoc cs ((coding_of m r).rule x ∷ []) (codes m rs xs ++ replicate (8 - n) 0))))
 
-  to_come_above : (r : Role) (x : ℕ) (rs : List Role) (xs cs : List ℕ) (n : ℕ) → (coding_of m r).top < x
+  to_come_above : (r : Role) (x : ℕ) (rs : List Role) (xs cs : List ℕ) (n : ℕ) → leb x (coding_of m r).top ≡ false
       → to_come (r ∷ rs) (x ∷ xs) cs n ≡ Err AboveTop
-  to_come_above r x rs xs cs n lt = rw (lt-leb x (coding_of m r).top lt)
+  to_come_above r x rs xs cs n out = rw out
 
   -- nothing is to come where no column is left, or no number
   none_left : (rs : List Role) (xs cs : List ℕ) (n : ℕ) → (rs ≡ []) ⊎ (xs ≡ []) → to_come rs xs cs n ≡ Ok (cs ++ replicate (8 - n) 0)

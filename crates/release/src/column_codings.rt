@@ -1,5 +1,5 @@
 // The codings of a release's columns.
-ghost use Rattle.std.specs.Prelude.{◌≡◌, replicate};
+ghost use Rattle.std.specs.Prelude.{◌≡◌};
 ghost use Rattle.book.specs.Rows.{coding_of};
 ghost use Rattle.release.specs.Coder.{one_coded, one_back, row_coded};
 ghost use Rattle.release.specs.Views.{meanings_of, roles_in};
@@ -47,17 +47,10 @@ impl<Y: Coding, H: Coding> ColumnCodings<Y, H> {
         ensures { result ≡ row_coded (meanings_of Y.means H.means self.now) (roles_in columns.now) numbers.now }
     {
         let roles = columns.as_slice();
-        let mut codes = zeros();
+        let mut codes = [0; 8];
         for (j, (role, number)) in roles.iter().zip(numbers).enumerate() {
             codes[j] = self.code_in(*role, *number)?;
         }
         Ok(codes)
     }
-}
-
-// What stands after the codes of a row.
-fn zeros() -> [u64; 8]
-    ensures { result ≡ replicate 8 0 }
-{
-    [0; 8]
 }

@@ -4,7 +4,6 @@ use book::call::{Answer, Call};
 use book::entry::Entry;
 use book::refusal::Refusal;
 use book::row::Row;
-use book::tally::Tally;
 use codings::coding::Coding;
 use codings::plus::Plus;
 use piles::pile::Pile;
@@ -62,47 +61,16 @@ fn tell_answers(
 ) -> io::Result<()> {
     println!(rt; "a release of yarn, hands and a clear column over 4 row records:")?;
     for (call, answer) in calls.iter().zip(answers) {
-        tell_call(rt, *call)?;
         match answer {
-            Ok(answer) => tell_answer(rt, *answer)?,
-            Err(refusal) => tell_refused(rt, *refusal)?,
+            Ok(answer) => println!(rt; "  {call}: {answer}")?,
+            Err(refusal) => println!(rt; "  {call}: refused {}: {refusal}", refusal.number())?,
         }
     }
     Ok(())
 }
 
-fn tell_call(rt: &impl Print, call: Call<'_>) -> io::Result<()> {
-    match call {
-        Call::Put(numbers) => print!(rt; "  put {numbers:?}: "),
-        Call::Withdraw(row) => print!(rt; "  withdraw row {row}: "),
-        Call::Show(Entry { row, column }) => print!(rt; "  show row {row} column {column}: "),
-        Call::TurnBack(Entry { row, column }) => print!(rt;
-            "  turn back row {row} column {column}: "
-        ),
-        Call::Tally => print!(rt; "  tally: "),
-    }
-}
-
-fn tell_answer(rt: &impl Print, answer: Answer) -> io::Result<()> {
-    match answer {
-        Answer::Put(row) => println!(rt; "row {row}"),
-        Answer::Withdrawn => println!(rt; "done"),
-        Answer::Shown(code) => println!(rt; "code {code}"),
-        Answer::TurnedBack(number) => println!(rt; "number {number}"),
-        Answer::Tally(Tally { taken, standing }) => println!(rt;
-            "{taken} places taken, {standing} rows standing"
-        ),
-    }
-}
-
-fn tell_refused(rt: &impl Print, refusal: Refusal) -> io::Result<()> {
-    let number = refusal.number();
-    println!(rt; "refused {number}: {refusal}")
-}
-
 fn tell_refusal(rt: &impl Print, what: &str, refusal: Refusal) -> io::Result<()> {
-    print!(rt; "{what}: ")?;
-    tell_refused(rt, refusal)
+    println!(rt; "{what}: refused {}: {refusal}", refusal.number())
 }
 
 fn tell_sealed(rt: &impl Print, sealed: &Release<Sealed>, memory: &[Row]) -> io::Result<()> {
@@ -111,9 +79,7 @@ fn tell_sealed(rt: &impl Print, sealed: &Release<Sealed>, memory: &[Row]) -> io:
         Err(refusal) => tell_refusal(rt, "sealed: row 1 column 1", refusal)?,
     }
     match sealed.tally(memory) {
-        Ok(Tally { taken, standing }) => println!(rt;
-            "sealed: {taken} places taken, {standing} rows standing"
-        ),
+        Ok(tally) => println!(rt; "sealed: {tally}"),
         Err(refusal) => tell_refusal(rt, "sealed: tally", refusal),
     }
 }

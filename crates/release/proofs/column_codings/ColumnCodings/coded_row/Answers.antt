@@ -11,7 +11,7 @@ use Rattle.release.proofs.Columnwise.{coded_none, coded_one, coded_above, coded_
 use Rattle.release.proofs.column_codings.ColumnCodings.coded_row.Goals as goal
 
 pub loop-j-init : goal.loop-j-init
-loop-j-init g c = rw c.zeros-codes.ensures (coded_none _ _ _)
+loop-j-init g c = coded_none _ _ _
 
 pub loop-j-preserved : goal.loop-j-preserved
 loop-j-preserved g c =
