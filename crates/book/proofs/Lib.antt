@@ -1,3 +1,4 @@
+pub mod Padding
 pub mod Asking
 pub mod Kept
 pub mod Runs

@@ -1,6 +1,6 @@
 -- The loop that codes a row column by column: what it keeps, and what it comes to.
 use Rattle.std.proofs.Common.{◌≡◌, ℕ, ◌+◌, ◌-◌, ◌<◌, ◌≤◌, min, true, false, leb, ◌⊎◌, List, [], ◌∷◌, ◌++◌, length, get_or, take, drop, set, replicate, Ok, Err, Result, sym, refl, ap, ◌∙◌, inl, inr, append_assoc, arith, length-set, take-append-drop}
-use Rattle.std.proofs.lemmas.List.{drop_more, take_more_set, drop_all, drop-set-lt, drop-replicate, drop-drop}
+use Rattle.std.proofs.lemmas.List.{drop_more, take_more_set, drop_all}
 use Rattle.std.proofs.lemmas.List.{get_or_default}
 use Rattle.std.proofs.lemmas.List.FromFn.{length-enumerate_from, get_or-enumerate_from}
 use Rattle.std.proofs.lemmas.Slice.Zip.{length-zip, get_or-zip}
@@ -15,10 +15,8 @@ use Rattle.book.specs.Refusals.{ask}
 use Rattle.book.specs.Rows.{ColumnMeanings, coding_of, within, codes}
 use Rattle.book.proofs.Asking.{ask_ok, ask_no}
 use Rattle.book.proofs.Kept.{length_codes}
+use Rattle.book.proofs.Padding.{filled_next}
 use Rattle.release.specs.Coder.{one_coded, row_coded}
-
-less : (j : ℕ) → 8 - j - 1 ≡ 8 - (j + 1)
-less j = omega arith
 
 -- what an answer of one column tells
 told_code : (m : Meaning) (x c : ℕ) → Ok c ≡ one_coded m x → (leb x m.top ≡ true) × (c ≡ m.rule x)
@@ -99,7 +97,7 @@ module _ (m : ColumnMeanings) where
         let front : take k cs ++ coding.rule (get_or xs k 0) ∷ [] ≡ take (k + 1) (set cs k c) = ap (λ v. take k cs ++ v ∷ []) (sym tell.1) ∙ sym (take_more_set cs k c room) in
         rw (more, at.1) (record {
           eight = length-set cs k c ∙ coded.eight;
-          zeros = drop-set-lt (k + 1) cs k c (omega arith) ∙ sym (drop-drop 1 k cs) ∙ ap (drop 1) coded.zeros ∙ drop-replicate 1 (8 - k) 0 ∙ ap (λ n. replicate n 0) (less k);
+          zeros = filled_next 0 cs k c coded.zeros;
           comes = coded.comes ∙ next k (take k cs) at.0 ∙ to_come_code (get_or rs k Yarn) (get_or xs k 0) (drop (k + 1) rs) (drop (k + 1) xs) (take k cs) (columns rs xs) tell.0 ∙ ap (λ zs. to_come (drop (k + 1) rs) (drop (k + 1) xs) zs (columns rs xs)) front;
         })
 

@@ -1,10 +1,12 @@
 -- The loop that reads role letters: what it keeps, and what it comes to.
-use Rattle.std.proofs.Common.{◌≡◌, ℕ, ◌+◌, ◌<◌, ◌≤◌, List, [], ◌∷◌, ◌++◌, length, get_or, take, drop, set, Ok, Err, Result, sym, refl, ap, ◌∙◌, append_assoc, append-nil, arith, length-set}
+use Rattle.std.proofs.Common.{◌≡◌, ℕ, ◌+◌, ◌-◌, ◌<◌, ◌≤◌, List, [], ◌∷◌, ◌++◌, length, get_or, take, drop, set, replicate, Ok, Err, Result, sym, refl, ap, ◌∙◌, append_assoc, append-nil, arith, length-set}
 use Rattle.std.proofs.lemmas.List.{drop_more, take_more_set, drop_all}
 use Rattle.std.proofs.lemmas.Bool.{lt-ltb, le-leb}
 use Rattle.book.specs.declared.refusal.Refusal.{Refusal}
 use Rattle.book.specs.declared.role.Role.{Role}
+use Rattle.book.specs.declared.role.Role.TheVariants.{Clear}
 use Rattle.book.specs.Roles.{role_read}
+use Rattle.book.proofs.Padding.{filled_next}
 use Rattle.release.specs.Opening.{in_front, roles_of, columns_of}
 
 front_none : (a : Result (List Role) Refusal) → a ≡ in_front [] a
@@ -26,16 +28,18 @@ module _ (ls : List ℕ) where
   -- after j letters their roles stand first, and what is to come goes behind them
   pub record Read (j : ℕ) (rs : List Role) : Type 0 where
     pub eight : length rs ≡ 8
+    pub clear : drop j rs ≡ replicate (8 - j) Clear
     pub comes : roles_of ls ≡ in_front (take j rs) (roles_of (drop j ls))
 
-  pub read_none : (rs : List Role) → length rs ≡ 8 → Read 0 rs
-  read_none rs e = record { eight = e; comes = front_none (roles_of ls) }
+  pub read_none : Read 0 (replicate 8 Clear)
+  read_none = record { eight = refl; clear = refl; comes = front_none (roles_of ls) }
 
   pub read_one : (j : ℕ) (rs : List Role) (r : Role) → j < length ls → length ls ≤ 8 → Read j rs → Ok r ≡ role_read (get_or ls j 0) → Read (j + 1) (set rs j r)
   read_one j rs r lt few k e =
       let room : j < length rs = omega (arith, k.eight) in
       record {
         eight = length-set rs j r ∙ k.eight;
+        clear = filled_next Clear rs j r k.clear;
         comes = k.comes
             ∙ ap (λ zs. in_front (take j rs) (roles_of zs)) (drop_more ls j 0 lt)
             ∙ ap (in_front (take j rs)) (roles_good (get_or ls j 0) (drop (j + 1) ls) r e)

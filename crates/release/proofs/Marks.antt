@@ -1,6 +1,6 @@
 -- What turn back makes of the code that show answers.
-use Rattle.std.proofs.Common.{◌≡◌, ℕ, ◌<◌, true, eqb, ltb, List, length, get_or, take, Ok, sym, ap, ◌∙◌, arith, length-take}
-use Rattle.std.proofs.lemmas.List.{get_or_default, get_or-take}
+use Rattle.std.proofs.Common.{◌≡◌, ℕ, ◌<◌, true, eqb, ltb, List, length, get_or, Ok, sym, ap, ◌∙◌}
+use Rattle.std.proofs.lemmas.List.{get_or_default}
 use Rattle.std.proofs.lemmas.Bool.{ltb-true}
 use Rattle.book.specs.declared.row.Row.{Row}
 use Rattle.book.specs.Raw.{stands, record_at, entry_coding, show_answer, turn_back_answer}
@@ -28,7 +28,5 @@ turned_back s t taken memory e code roles records answered =
     )
 
 -- the role of a column that exists
-pub role_there : (roles : List Role) (n column : ℕ) (d e : Role) → column < length (take n roles) → get_or roles column d ≡ get_or (take n roles) column e
-role_there roles n column d e lt =
-    let size = length-take n roles in
-    sym (get_or-take n roles column d (omega arith)) ∙ get_or_default (take n roles) column d e lt
+pub role_there : (rs roles : List Role) (column : ℕ) (d e : Role) → rs ≡ roles → column < length roles → get_or rs column d ≡ get_or roles column e
+role_there rs roles column d e same lt = ap (λ zs. get_or zs column d) same ∙ get_or_default roles column d e lt

@@ -13,7 +13,7 @@ use Rattle.release.specs.Opening.{ReadAs}
 use Rattle.release.specs.Calls.{Opened, open_answer}
 use Rattle.release.specs.Listed.{state_of}
 use Rattle.release.specs.Promises.{BookKept, ListDone, RanFrom}
-use Rattle.release.specs.Views.{setup_of, roles_in, with_taken}
+use Rattle.release.specs.Views.{setup_of, with_taken}
 use Rattle.release.specs.declared.plain.Plain.{Plain}
 
 pub list_done : (o : Plain) (memory : List Row) (m : ColumnMeanings) → ((r : Role) → Lawful (coding_of m r)) → (cs : List Asked) (before told : List (Result Answer Refusal)) (o' : Plain) (memory' : List Row)
@@ -45,9 +45,9 @@ pub ran_from : (letters : List ℕ) (memory zeroed : List Row) (o : Plain) (m : 
     → Opened letters memory (Ok o) zeroed → ListDone o zeroed m cs told o' memory' → RanFrom letters memory m cs o' told memory'
 ran_from letters memory zeroed o m cs told o' memory' opened done =
     let same : setup_of o' m ≡ setup_of o m = ap (λ p. setup_of p m) done.release in
-    let roles : roles_in o'.columns ≡ roles_in o.columns = ap (λ p. roles_in p.columns) done.release in
+    let roles : o'.columns ≡ o.columns = ap (λ p. p.columns) done.release in
     record {
-      roles = read_ok (open_answer letters (length memory)) o (λ p. roles_in p.columns) opened.answer ∙ ap Ok (sym roles);
+      roles = read_ok (open_answer letters (length memory)) o (λ p. p.columns) opened.answer ∙ ap Ok (sym roles);
       records = ap (λ p. p.records) done.release ∙ opened.fresh.0;
       book = subst (λ s. BookKept s [] cs told o'.taken memory') (sym same) (done.book [] (opened.fresh.3 m));
     }

@@ -12,7 +12,7 @@ use Rattle.book.specs.Rows.{ColumnMeanings, blank}
 use Rattle.book.specs.Raw.{put_answer, put_memory, put_taken, withdraw_answer, withdraw_memory, show_answer, turn_back_answer, tally_answer}
 use Rattle.book.specs.Book.{BookRow, book_put, after_put, book_withdraw, after_withdraw, book_show, book_turn_back, book_tally, Keeps}
 use Rattle.release.specs.Opening.{columns_of, ReadAs}
-use Rattle.release.specs.Views.{setup_of, plain_setup, roles_in, with_taken}
+use Rattle.release.specs.Views.{setup_of, plain_setup, with_taken}
 use Rattle.release.specs.declared.plain.Plain.{Plain}
 
 -- Opening: 1 to 8 columns, each role letter Y, H or C, 1 to 4096 row records.
@@ -26,7 +26,7 @@ Fresh (Ok o) memory memory' = (o.records ≡ length memory) × (o.taken ≡ 0) �
 Fresh (Err e) memory memory' = memory' ≡ memory
 
 pub record Opened (letters : List ℕ) (memory : List Row) (r : Result Plain Refusal) (memory' : List Row) : Type 0 where
-  pub answer : ReadAs (open_answer letters (length memory)) r (λ o. roles_in o.columns)
+  pub answer : ReadAs (open_answer letters (length memory)) r (λ o. o.columns)
   pub fresh : Fresh r memory memory'
 
 module _ (o : Plain) (memory : List Row) where

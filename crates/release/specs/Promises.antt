@@ -8,7 +8,7 @@ use Rattle.book.specs.Book.{BookRow, Keeps}
 use Rattle.book.specs.Runs.{Asked, answers, after_all, book_answers, book_after_all, Promise}
 use Rattle.release.specs.Calls.{open_answer}
 use Rattle.release.specs.Listed.{state_of}
-use Rattle.release.specs.Views.{setup_of, roles_in, with_taken}
+use Rattle.release.specs.Views.{setup_of, with_taken}
 use Rattle.release.specs.declared.plain.Plain.{Plain}
 use Rattle.release.specs.declared.ran.Unopened.{Unopened}
 use Rattle.release.specs.declared.ran.Unopened.TheVariants.{Refused, NoMemory}
@@ -31,7 +31,7 @@ pub record ListDone (o : Plain) (memory : List Row) (m : ColumnMeanings) (cs : L
 
 -- A release opened with these role letters over this row memory, after a list of calls.
 pub record RanFrom (letters : List ℕ) (memory : List Row) (m : ColumnMeanings) (cs : List Asked) (o : Plain) (told : List (Result Answer Refusal)) (memory' : List Row) : Type 0 where
-  pub roles : open_answer letters (length memory) ≡ Ok (roles_in o.columns)
+  pub roles : open_answer letters (length memory) ≡ Ok o.columns
   pub records : o.records ≡ length memory
   pub book : BookKept (setup_of o m) [] cs told o.taken memory'
 

@@ -1,17 +1,12 @@
 -- What a release is to the definitions: what it was opened with, and its state.
-use Rattle.std.specs.Prelude.{◌≡◌, ℕ, ◌-◌, ◌<◌, true, false, List, length, take, Some, None, Option}
+use Rattle.std.specs.Prelude.{◌≡◌, ℕ, ◌-◌, ◌<◌, true, false, List, length, Some, None, Option}
 use Rattle.meanings.specs.Meaning.{Meaning}
 use Rattle.meanings.specs.Supplied.{clear}
 use Rattle.book.specs.Raw.{record_at, stands}
-use Rattle.book.specs.declared.role.Role.{Role}
 use Rattle.book.specs.declared.row.Row.{Row}
 use Rattle.book.specs.Rows.{ColumnMeanings, Setup}
 use Rattle.release.specs.declared.column_codings.ColumnCodings.{ColumnCodings}
-use Rattle.release.specs.declared.columns.Columns.{Columns}
 use Rattle.release.specs.declared.plain.Plain.{Plain}
-
-abbrev pub roles_in : Columns → List Role
-roles_in c = take c.count c.roles
 
 -- what column codings mean, by what a yarn coding and a hands coding mean
 abbrev pub meanings_of : {Y H : Type 0} → (Y → Meaning) → (H → Meaning) → ColumnCodings Y H → ColumnMeanings
@@ -19,7 +14,7 @@ meanings_of y h codings = record { yarn = y codings.yarn; hands = h codings.hand
 
 -- a release whose calls are given codings that mean m
 abbrev pub setup_of : Plain → ColumnMeanings → Setup
-setup_of o m = record { roles = roles_in o.columns; records = o.records; codings = m }
+setup_of o m = record { roles = o.columns; records = o.records; codings = m }
 
 -- where no coding is asked, the codings do not matter: clear stands for both
 abbrev pub plain_setup : Plain → Setup

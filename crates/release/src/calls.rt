@@ -6,7 +6,7 @@ ghost use Rattle.release.specs.Handed.{plain_of};
 ghost use Rattle.release.specs.Views.{meanings_of};
 
 use crate::column_codings::ColumnCodings;
-use crate::opening::read_columns;
+use crate::columns::Columns;
 use crate::plain::Plain;
 use crate::raw::blank_all;
 use crate::states::{Open, Release, Sealed};
@@ -21,7 +21,7 @@ impl Plain {
     pub(crate) fn opened(letters: &[char], memory: &mut [Row]) -> Result<Plain, Refusal>
         ensures { Opened letters.now memory.old result memory.new }
     {
-        let columns = read_columns(letters)?;
+        let columns = Columns::read(letters)?;
         let records = memory.len();
         if records == 0 || records > 4096 {
             return Err(Refusal::RowRecords);

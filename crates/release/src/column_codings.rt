@@ -2,7 +2,7 @@
 ghost use Rattle.std.specs.Prelude.{◌≡◌};
 ghost use Rattle.book.specs.Rows.{coding_of};
 ghost use Rattle.release.specs.Coder.{one_coded, one_back, row_coded};
-ghost use Rattle.release.specs.Views.{meanings_of, roles_in};
+ghost use Rattle.release.specs.Views.{meanings_of};
 
 use crate::columns::Columns;
 use book::refusal::Refusal;
@@ -44,7 +44,7 @@ impl<Y: Coding, H: Coding> ColumnCodings<Y, H> {
 
     // The numbers of the record of a row: its codes, with zeros after them.
     pub(crate) fn coded_row(&self, columns: &Columns, numbers: &[u64]) -> Result<[u64; 8], Refusal>
-        ensures { result ≡ row_coded (meanings_of Y.means H.means self.now) (roles_in columns.now) numbers.now }
+        ensures { result ≡ row_coded (meanings_of Y.means H.means self.now) columns.now numbers.now }
     {
         let roles = columns.as_slice();
         let mut codes = [0; 8];

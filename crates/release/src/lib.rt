@@ -8,7 +8,6 @@ mod calls;
 pub mod column_codings;
 pub mod columns;
 mod lists;
-mod opening;
 pub mod plain;
 pub mod ran;
 mod raw;

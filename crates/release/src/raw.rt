@@ -61,7 +61,7 @@ impl Plain {
         ensures release { self.new ≡ with_taken self.old (put_taken (setup_of self.old (meanings_of Y.means H.means codings.now)) self.old.taken memory.old numbers.now) }
     {
         self.ask_length(memory)?;
-        if numbers.len() != self.columns.count {
+        if numbers.len() != self.columns.as_slice().len() {
             return Err(Refusal::NumberCount);
         }
         if self.taken >= self.records {
@@ -95,7 +95,7 @@ impl Plain {
         let record = self
             .standing_record(memory, entry.row)
             .ok_or(Refusal::NotStanding)?;
-        if entry.column >= self.columns.count {
+        if entry.column >= self.columns.as_slice().len() {
             return Err(Refusal::NoSuchColumn);
         }
         Ok(record.numbers[entry.column])
@@ -120,7 +120,7 @@ impl Plain {
         ensures { result ≡ turn_back_answer (setup_of self.now (meanings_of Y.means H.means codings.now)) self.now.taken memory.now entry }
     {
         let code = self.show_code(memory, entry)?;
-        codings.back_in(self.columns.roles[entry.column], code)
+        codings.back_in(self.columns.as_slice()[entry.column], code)
     }
 }
 

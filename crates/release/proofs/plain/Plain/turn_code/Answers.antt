@@ -11,5 +11,5 @@ returns g c =
     let o = c.args.self.now in
     let m = meanings_of g.Y.Coding.means g.H.Coding.means c.args.codings.now in
     let t = turned_back (setup_of o m) (plain_setup o) o.taken c.args.memory.now c.args.entry c.in_ok-code.code refl refl c.in_ok-code.ensures in
-    let role = role_there o.columns.roles o.columns.count c.args.entry.column _ Clear t.0 in
+    let role = role_there _ o.columns c.args.entry.column _ Clear c.as_slice.ensures.roles t.0 in
     c.back_in.ensures ∙ ap (λ r. one_back (coding_of m r) c.in_ok-code.code) role ∙ t.1
