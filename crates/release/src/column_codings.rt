@@ -7,7 +7,6 @@ ghost use Rattle.release.specs.Views.{meanings_of};
 use crate::columns::Columns;
 use book::refusal::Refusal;
 use book::role::Role;
-use codings::clear::Clear;
 use codings::coding::Coding;
 use codings::turned::Turned;
 
@@ -48,6 +47,7 @@ impl<Y: Coding, H: Coding> ColumnCodings<Y, H> {
     {
         let roles = columns.as_slice();
         let mut codes = [0; 8];
+        // By place: what a zip over `iter_mut` has written is not known to a proof.
         for (j, (role, number)) in roles.iter().zip(numbers).enumerate() {
             codes[j] = self.code_in(*role, *number)?;
         }

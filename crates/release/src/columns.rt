@@ -49,6 +49,7 @@ impl Columns {
             return Err(Refusal::Columns);
         }
         let mut roles = [Role::Clear; 8];
+        // By place, as in `coded_row`. One function for both loops would be a closure with a contract for these two lines.
         for (j, letter) in letters.iter().enumerate() {
             roles[j] = Role::try_from(*letter)?;
         }

@@ -1,7 +1,7 @@
 // The bodies of the calls, by the questions that they ask in sequence; the first no decides.
 ghost use Rattle.std.specs.Prelude.{◌≡◌, ◌≢◌, length, take, replicate, MatchResult};
 ghost use Rattle.book.specs.declared.refusal.Refusal.TheVariants.{MemoryLength};
-ghost use Rattle.book.specs.Raw.{stands, put_answer, put_memory, put_taken, withdraw_answer, withdraw_memory, show_answer, turn_back_answer, tally_answer, count_marks};
+ghost use Rattle.book.specs.Raw.{put_answer, put_memory, put_taken, withdraw_answer, withdraw_memory, show_answer, turn_back_answer, tally_answer, count_marks};
 ghost use Rattle.book.specs.Rows.{blank};
 ghost use Rattle.release.specs.Views.{meanings_of, setup_of, plain_setup, with_taken, Standing, StandingRecord};
 ghost use Rattle.std.specs.Option.{option_map};

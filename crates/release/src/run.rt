@@ -47,6 +47,7 @@ impl Plain {
         ensures state { state_of self.new memory.new ≡ after_all (setup_of self.old (meanings_of Y.means H.means codings.now)) (state_of self.old memory.old) (map asked_of calls.now) }
         ensures release { self.new ≡ with_taken self.old self.new.taken }
     {
+        // A loop: of a chain whose closure changes the release and row memory a proof knows nothing.
         for call in calls {
             told.push_reserved(self.made(memory, codings, *call));
         }

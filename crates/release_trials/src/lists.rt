@@ -3,6 +3,7 @@ use crate::bench::*;
 use book::call::{Answer, Call};
 use book::refusal::Refusal;
 use book::row::Row;
+use release::column_codings::ColumnCodings;
 use release::open_and_call;
 use release::ran::{Ran, Unopened};
 use release::states::{Open, Release};
@@ -74,7 +75,11 @@ fn second_list(
 fn list_on_no_release(rt: HostRuntime) -> Result<(), Fail> {
     let with = both_codings()?;
     let mut memory = [DIRTY; 1];
-    match open_and_call(rt.alloc(), &['X'], &mut memory, &with, &[Call::Tally]) {
+    let lent = ColumnCodings {
+        yarn: &with.yarn,
+        hands: &with.hands,
+    };
+    match open_and_call(rt.alloc(), &['X'], &mut memory, &lent, &[Call::Tally]) {
         Ok(
             Ran {
                 release,

@@ -4,7 +4,6 @@ use book::call::{Answer, Call};
 use book::entry::Entry;
 use book::refusal::Refusal;
 use book::row::Row;
-use codings::coding::Coding;
 use codings::plus::Plus;
 use piles::pile::Pile;
 use release::column_codings::ColumnCodings;

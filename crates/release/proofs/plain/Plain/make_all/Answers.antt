@@ -14,7 +14,7 @@ loop-call-preserved g c =
     let m = meanings_of g.Y.Coding.means g.H.Coding.means c.args.codings.now in
     let same : setup_of c.loop-call.self m ≡ setup_of c.args.self.now m = ap (λ p. setup_of p m) c.loop-call.invariant.release in
     record {
-      underway = run_goes _ _ _ c.args.calls.now _ (state_of c.loop-call.self c.loop-call.memory) (state_of c.made.new.self c.made.new.memory) _ _ _ _ (setup_of c.loop-call.self m) same c.loop-call-test.true made.answer made.state pushed.items c.loop-call.invariant.underway;
+      underway = run_goes _ _ _ c.args.calls.now _ (state_of c.loop-call.self c.loop-call.memory) (state_of c.made.new.self c.made.new.memory) c.loop-call.told.items c.push_reserved.new.self.items c.made.result _ (setup_of c.loop-call.self m) same c.loop-call-test.true made.answer made.state pushed.items c.loop-call.invariant.underway;
       release = made.release ∙ ap (λ p. with_taken p c.made.new.self.taken) c.loop-call.invariant.release;
       room = omega (arith, pushed.len, pushed.capacity, c.loop-call.invariant.room);
     }
