@@ -1,1 +1,4 @@
+pub mod Places
+pub mod Founds
+pub mod Readers
 pub mod Reads

@@ -9,9 +9,7 @@ use Rattle.spelling.specs.declared.command.Command.TheVariants.{Width, Part, End
 use Rattle.spelling.specs.declared.fault.Fault.{Fault}
 use Rattle.spelling.specs.declared.fault.Reason.{Reason}
 use Rattle.spelling.specs.declared.fault.Reason.TheVariants.{BadWidth, Missing, GoesOn}
-use Rattle.spelling.specs.declared.reading.Reading.{Reading}
-use Rattle.spelling.specs.declared.reading.Turn.{Turn}
-use Rattle.spelling.specs.declared.reading.Turn.TheVariants.{More, Done}
+use Rattle.spelling.specs.Reading.{Reading, Turn, More, Done}
 use Rattle.spelling.specs.Commands.{part_operands}
 use Rattle.spelling.specs.Turns.{operand, part_fault, put_part, with_width, complete, ask, after, turn, Good}
 use Rattle.spelling.specs.Steps.{noted}

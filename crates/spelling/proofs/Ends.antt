@@ -10,9 +10,7 @@ use Rattle.spelling.specs.declared.command.Command.TheVariants.{Width, Part, End
 use Rattle.spelling.specs.declared.fault.Fault.{Fault}
 use Rattle.spelling.specs.declared.fault.Reason.{Reason}
 use Rattle.spelling.specs.declared.fault.Reason.TheVariants.{BadWidth, Missing, GoesOn}
-use Rattle.spelling.specs.declared.reading.Reading.{Reading}
-use Rattle.spelling.specs.declared.reading.Turn.{Turn}
-use Rattle.spelling.specs.declared.reading.Turn.TheVariants.{More, Done}
+use Rattle.spelling.specs.Reading.{Reading, Turn, More, Done}
 use Rattle.spelling.specs.Commands.{command_of, part_operands, wide_place}
 use Rattle.spelling.specs.Turns.{ask, start, with_width, operand, part_fault, has, always, above, complete, after, turn}
 use Rattle.spelling.specs.Spelling.{Item, written, Right, Given, Needed, Spells, after_width}

@@ -11,9 +11,7 @@ use Rattle.spelling.specs.declared.command.Command.{Command}
 use Rattle.spelling.specs.declared.command.Command.TheVariants.{Width, Part, End}
 use Rattle.spelling.specs.declared.fault.Fault.{Fault}
 use Rattle.spelling.specs.declared.fault.Reason.{Reason}
-use Rattle.spelling.specs.declared.reading.Reading.{Reading}
-use Rattle.spelling.specs.declared.reading.Turn.{Turn}
-use Rattle.spelling.specs.declared.reading.Turn.TheVariants.{More}
+use Rattle.spelling.specs.Reading.{Reading, Turn, More}
 use Rattle.spelling.specs.Commands.{command_of, index_of, place_of, part_operands, operands_of, has_use}
 use Rattle.spelling.specs.Turns.{operand, part_fault, put_part, turn}
 use Rattle.spelling.specs.Steps.{noted}

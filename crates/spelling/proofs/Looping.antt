@@ -2,8 +2,7 @@
 use Rattle.std.proofs.Common.{◌≡◌, ℕ, zero, suc, ◌+◌, ◌<◌, ◌≤◌, List, length, Ok, Err, sym, ap, ◌∙◌, arith}
 use Rattle.spelling.specs.declared.fault.Fault.{Fault}
 use Rattle.spelling.specs.declared.parts.Parts.{Parts}
-use Rattle.spelling.specs.declared.reading.Reading.{Reading}
-use Rattle.spelling.specs.declared.reading.Turn.TheVariants.{More, Done}
+use Rattle.spelling.specs.Reading.{Reading, More, Done}
 use Rattle.spelling.specs.Turns.{Good, start, turn}
 use Rattle.spelling.specs.Spelling.{run, read_parts}
 use Rattle.spelling.proofs.Advancing.{advances}

@@ -2,9 +2,7 @@
 use Rattle.std.proofs.Common.{◌≡◌, ℕ, zero, suc, ◌+◌, ◌<◌, ◌≤◌, List, length, Ok, Err, Result, sym, refl, ap, ◌∙◌, arith}
 use Rattle.spelling.specs.declared.parts.Parts.{Parts}
 use Rattle.spelling.specs.declared.fault.Fault.{Fault}
-use Rattle.spelling.specs.declared.reading.Reading.{Reading}
-use Rattle.spelling.specs.declared.reading.Turn.{Turn}
-use Rattle.spelling.specs.declared.reading.Turn.TheVariants.{More, Done}
+use Rattle.spelling.specs.Reading.{Reading, Turn, More, Done}
 use Rattle.spelling.specs.Turns.{turn, Good}
 use Rattle.spelling.specs.Spelling.{run}
 use Rattle.spelling.proofs.Advancing.{advances}

@@ -4,7 +4,7 @@ use Rattle.std.specs.List.{AllByRecursion}
 use Rattle.std.proofs.lemmas.List.{append-nil, append_assoc}
 use Rattle.spelling.specs.declared.parts.Parts.{Parts}
 use Rattle.spelling.specs.declared.fault.Fault.{Fault}
-use Rattle.spelling.specs.declared.reading.Reading.{Reading}
+use Rattle.spelling.specs.Reading.{Reading}
 use Rattle.spelling.specs.Turns.{start, turn, Good}
 use Rattle.spelling.specs.Spelling.{Item, letter_of, written, Right, New, Once, Given, Needed, Spells, FirstNo, after_width, run}
 use Rattle.spelling.proofs.Advancing.{advances}

@@ -5,8 +5,7 @@ use Rattle.spelling.specs.declared.command.Command.{Command}
 use Rattle.spelling.specs.declared.fault.Fault.{Fault}
 use Rattle.spelling.specs.declared.fault.Reason.{Reason}
 use Rattle.spelling.specs.declared.fault.Reason.TheVariants.{NoCommand}
-use Rattle.spelling.specs.declared.reading.Reading.{Reading}
-use Rattle.spelling.specs.declared.reading.Turn.{Turn}
+use Rattle.spelling.specs.Reading.{Reading, Turn}
 use Rattle.spelling.specs.Commands.{command_of, operands_of, has_use}
 use Rattle.spelling.specs.Turns.{ask, in_sequence, after, given_command, command_at, turn}
 

@@ -1,5 +1,5 @@
 -- The commands of a draft: their letters, the bytes of their operands, and which widths have a use for them.
-use Rattle.std.specs.Prelude.{ℕ, ◌+◌, Bool, true, cond, ◌||◌, Some, None, Option, ◌==◌, nat_lt}
+use Rattle.std.specs.Prelude.{◌≡◌, ℕ, ◌+◌, Bool, true, cond, ◌||◌, Some, None, Option, Result, MatchResult, ◌==◌, nat_lt}
 use Rattle.spelling.specs.declared.parts.Flow.TheVariants.{Flex, Cpa}
 use Rattle.spelling.specs.declared.command.OrderName.{OrderName}
 use Rattle.spelling.specs.declared.command.OrderName.TheVariants.{R0, R1, R2, R3, R4, R5}
@@ -7,6 +7,8 @@ use Rattle.spelling.specs.declared.command.Part.{Part as PartT}
 use Rattle.spelling.specs.declared.command.Part.TheVariants.{Flow, C0, C1, Order}
 use Rattle.spelling.specs.declared.command.Command.{Command}
 use Rattle.spelling.specs.declared.command.Command.TheVariants.{Width, Part, End}
+use Rattle.spelling.specs.declared.fault.Reason.{Reason}
+use Rattle.spelling.specs.declared.fault.Reason.TheVariants.{NoCommand}
 
 -- W is 87, F 70, P 80, A 65, B 66, the digits 0 to 5 are 48 to 53, and Z is 90.
 abbrev pub command_of : ℕ → Option Command
@@ -23,6 +25,10 @@ command_of l =
     cond (l == 52) (Some (Part (Order R4))) (
     cond (l == 53) (Some (Part (Order R5))) (
     cond (l == 90) (Some End) None)))))))))))
+
+-- The command of a letter, or that it is none.
+abbrev pub ReadAs : ℕ → Result Command Reason → Type 0
+ReadAs l r = MatchResult r (λ c. command_of l ≡ Some c) (λ why. (command_of l ≡ None) × (why ≡ NoCommand))
 
 abbrev pub index_of : OrderName → ℕ
 index_of R0 = 0

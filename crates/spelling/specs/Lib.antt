@@ -1,5 +1,7 @@
 pub mod Commands
 pub mod Faults
+pub mod Flows
+pub mod Reading
 pub mod Turns
 pub mod Steps
 pub mod Spelling

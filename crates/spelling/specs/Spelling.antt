@@ -9,8 +9,7 @@ use Rattle.spelling.specs.declared.command.Part.TheVariants.{Flow, C0, C1, Order
 use Rattle.spelling.specs.declared.command.Command.TheVariants.{Part}
 use Rattle.spelling.specs.declared.fault.Fault.{Fault}
 use Rattle.spelling.specs.declared.fault.Reason.TheVariants.{NoByte}
-use Rattle.spelling.specs.declared.reading.Reading.{Reading}
-use Rattle.spelling.specs.declared.reading.Turn.TheVariants.{More, Done}
+use Rattle.spelling.specs.Reading.{Reading, More, Done}
 use Rattle.spelling.specs.Commands.{index_of, place_of, part_operands, has_use, wide_place}
 use Rattle.spelling.specs.Turns.{blank, start, with_width, put_part, number, order_size, turn}
 use Rattle.spelling.specs.Steps.{noted}

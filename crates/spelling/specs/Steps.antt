@@ -3,7 +3,7 @@ use Rattle.std.specs.Prelude.{ℕ, ◌+◌, true, List, Some, None, Ok, Err, Res
 use Rattle.spelling.specs.declared.parts.Parts.{Parts}
 use Rattle.spelling.specs.declared.command.Part.{Part as PartT}
 use Rattle.spelling.specs.declared.fault.Fault.{Fault}
-use Rattle.spelling.specs.declared.reading.Reading.{Reading}
+use Rattle.spelling.specs.Reading.{Reading}
 use Rattle.spelling.specs.Commands.{place_of, part_operands}
 use Rattle.spelling.specs.Turns.{part_fault, put_part, operand}
 

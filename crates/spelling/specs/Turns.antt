@@ -11,9 +11,7 @@ use Rattle.spelling.specs.declared.command.Command.TheVariants.{Width, Part, End
 use Rattle.spelling.specs.declared.fault.Fault.{Fault}
 use Rattle.spelling.specs.declared.fault.Reason.{Reason}
 use Rattle.spelling.specs.declared.fault.Reason.TheVariants.{NoByte, NoCommand, OutOfSequence, NoUse, BadWidth, TooLarge, NoOrder, Missing, GoesOn}
-use Rattle.spelling.specs.declared.reading.Reading.{Reading}
-use Rattle.spelling.specs.declared.reading.Turn.{Turn}
-use Rattle.spelling.specs.declared.reading.Turn.TheVariants.{More, Done}
+use Rattle.spelling.specs.Reading.{Reading, Turn, More, Done}
 use Rattle.spelling.specs.Commands.{command_of, index_of, place_of, operands_of, part_operands, has_use}
 
 -- A question: where the answer is no, the fault; where it is yes, what comes next.

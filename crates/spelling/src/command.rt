@@ -1,4 +1,7 @@
 // The commands of a draft.
+ghost use Rattle.spelling.specs.Commands.{ReadAs};
+
+use crate::fault::Reason;
 use crate::parts::Flow;
 
 // The orders 0 to 5.
@@ -33,4 +36,29 @@ pub enum Command {
     Part(Part),
     // Z: the draft ends.
     End,
+}
+
+// The command of a letter.
+impl TryFrom<char> for Command {
+    type Error = Reason;
+
+    ghost try_from_gives = { ReadAs };
+
+    fn try_from(letter: char) -> Result<Command, Reason> {
+        match letter {
+            'W' => Ok(Command::Width),
+            'F' => Ok(Command::Part(Part::Flow(Flow::Flex))),
+            'P' => Ok(Command::Part(Part::Flow(Flow::Cpa))),
+            'A' => Ok(Command::Part(Part::C0)),
+            'B' => Ok(Command::Part(Part::C1)),
+            '0' => Ok(Command::Part(Part::Order(OrderName::R0))),
+            '1' => Ok(Command::Part(Part::Order(OrderName::R1))),
+            '2' => Ok(Command::Part(Part::Order(OrderName::R2))),
+            '3' => Ok(Command::Part(Part::Order(OrderName::R3))),
+            '4' => Ok(Command::Part(Part::Order(OrderName::R4))),
+            '5' => Ok(Command::Part(Part::Order(OrderName::R5))),
+            'Z' => Ok(Command::End),
+            _ => Err(Reason::NoCommand),
+        }
+    }
 }

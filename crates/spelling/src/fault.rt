@@ -1,5 +1,5 @@
 // Why bytes are no draft.
-ghost use Rattle.std.specs.Prelude.{◌≡◌, None as Unshown};
+ghost use Rattle.std.specs.Prelude.{◌≡◌, Some as Shown, None as Unshown};
 ghost use Rattle.spelling.specs.Faults.{number_of, layer_of, place_in, words_of, name_of};
 
 use std::fmt;
@@ -107,13 +107,21 @@ impl Layer {
     }
 }
 
+impl fmt::Display for Layer {
+    ghost output = { λ layer. Shown (name_of layer) };
+
+    fn fmt<W: fmt::Write>(&self, f: &mut fmt::Formatter<W>) -> fmt::Result {
+        f.pad(self.name())
+    }
+}
+
 // One line: its number, offset and layer, the place where there is one, and the words.
 impl fmt::Display for Fault {
     ghost output = { λ _. Unshown };
 
     fn fmt<W: fmt::Write>(&self, f: &mut fmt::Formatter<W>) -> fmt::Result {
         let number = self.reason.number();
-        let layer = self.reason.layer().name();
+        let layer = self.reason.layer();
         write!(f, "{number} offset {} layer {layer}", self.offset)?;
         if let Some(place) = self.reason.place() {
             write!(f, " place {place}")?;

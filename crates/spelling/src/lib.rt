@@ -5,4 +5,3 @@
 pub mod command;
 pub mod fault;
 pub mod parts;
-pub mod reading;

@@ -1,10 +1,25 @@
 // What a draft says, as plain data.
+ghost use Rattle.std.specs.Prelude.{Some as Shown};
+ghost use Rattle.spelling.specs.Flows.{name_of};
+
+use std::fmt;
 
 // The two ways through the cipher.
 #[derive(Clone, Copy, PartialEq, Eq, Debug)]
 pub enum Flow {
     Flex,
     Cpa,
+}
+
+impl fmt::Display for Flow {
+    ghost output = { λ flow. Shown (name_of flow) };
+
+    fn fmt<W: fmt::Write>(&self, f: &mut fmt::Formatter<W>) -> fmt::Result {
+        f.pad(match self {
+            Flow::Flex => "Flex",
+            Flow::Cpa => "CPA",
+        })
+    }
 }
 
 // The width of the numbers, the flow, the constants C0 and C1, and the lists of the orders 0 to 5. What a width has no

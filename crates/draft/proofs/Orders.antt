@@ -1,0 +1,67 @@
+-- Lists of orders: what is read of them, and where they are put.
+use Rattle.std.proofs.Common.{◌≡◌, ℕ, suc, ◌+◌, Bool, true, false, List, ◌∷◌, map, set, length, Some, None, Ok, Err, Option, Result, is_some, unwrap_or, refl, sym, ap, subst, arith}
+use Rattle.std.proofs.lemmas.List.{map-set}
+use Rattle.bits.specs.Orders.{Sound, FirstFault}
+use Rattle.spelling.specs.declared.command.OrderName.{OrderName}
+use Rattle.spelling.specs.declared.command.Part.{Part as PartT}
+use Rattle.spelling.specs.declared.command.Part.TheVariants.{Order}
+use Rattle.spelling.specs.declared.fault.Fault.{Fault}
+use Rattle.spelling.specs.declared.fault.Reason.{Reason}
+use Rattle.spelling.specs.declared.fault.Reason.TheVariants.{NoByte, NoOrder}
+use Rattle.spelling.specs.declared.parts.Flow.{Flow}
+use Rattle.spelling.specs.declared.parts.Flow.TheVariants.{Flex}
+use Rattle.spelling.specs.declared.parts.Parts.{Parts}
+use Rattle.spelling.specs.Commands.{index_of, place_of, part_operands}
+use Rattle.spelling.specs.Steps.{found}
+use Rattle.spelling.specs.Turns.{ask, operand, put_part, order_size, first_fault}
+use Rattle.spelling.proofs.Operands.{none_at_fault, first_found}
+use Rattle.draft.specs.declared.found.Found.{Found}
+use Rattle.draft.specs.declared.place.Place.{Place}
+use Rattle.draft.specs.Founds.{list_of, reading_at}
+use Rattle.draft.specs.Places.{with_operand, list_or}
+
+pub sound_read : (n m at : ℕ) (there : Bool) (os list : List ℕ) → Ok list ≡ ask there NoByte at (Ok os) → m ≡ n → Sound m list
+    → Ok list ≡ ask there NoByte at (list_or at os (first_fault n os (length os) 0))
+sound_read n m at true os list e same sound =
+    let is : os ≡ list = cc in rw (is, ← same) (ap (list_or at list) (none_at_fault m list sound))
+sound_read n m at false os list e same sound = let z : ◌≡◌ {A = ℕ} 0 1 = cc in absurd (omega arith)
+
+pub fault_read : (n m at p : ℕ) (there : Bool) (os list : List ℕ) → Ok list ≡ ask there NoByte at (Ok os) → m ≡ n → FirstFault m list p
+    → Err (record { reason = NoOrder p; offset = at }) ≡ ask there NoByte at (list_or at os (first_fault n os (length os) 0))
+fault_read n m at p true os list e same fault =
+    let is : os ≡ list = cc in rw (is, ← same) (ap (list_or at list) (first_found m list p fault))
+fault_read n m at p false os list e same fault = let z : ◌≡◌ {A = ℕ} 0 1 = cc in absurd (omega arith)
+
+abbrev all_of : ℕ → Flow → ℕ → ℕ → List (Option (List ℕ)) → Parts
+all_of w f c d orders = record { width = w; flow = f; c0 = c; c1 = d; orders = map list_of orders }
+
+abbrev why_of : Option ℕ → Option Reason
+why_of o = elim o [ None ↦ None | Some p ↦ Some (NoOrder p) ]
+
+abbrev parts_or : ℕ → Parts → Option Reason → Result Parts Fault
+parts_or at p o = elim o [ Some why ↦ Err (record { reason = why; offset = at }) | None ↦ Ok p ]
+
+put : (w : ℕ) (f : Flow) (c d : ℕ) (orders : List (Option (List ℕ))) (k : OrderName) (i at : ℕ) (there : Bool) (os list : List ℕ) (o : Option ℕ)
+    → i ≡ index_of k → Ok list ≡ ask there NoByte at (list_or at os o)
+    → Ok (all_of w f c d (set orders i (Some list))) ≡ ask there NoByte at (parts_or at (put_part (Order k) os (all_of w f c d orders)) (why_of o))
+put w f c d orders k i at false os list o is e = let z : ◌≡◌ {A = ℕ} 0 1 = cc in absurd (omega arith)
+put w f c d orders k i at true os list (Some p) is e = let z : ◌≡◌ {A = ℕ} 0 1 = cc in absurd (omega arith)
+put w f c d orders k i at true os list None is e =
+    let same : list ≡ os = cc in rw (← is, ← same, map-set list_of orders i (Some list)) refl
+
+-- the parts after a list was put to its order
+pub parts_put : (f : Found) (place : Place) (part : PartT) (k : OrderName) (i : ℕ) (list : List ℕ) → part ≡ Order k → i ≡ index_of k
+    → Ok list ≡ with_operand place 64 (λ os. list_or place.at os (first_fault (order_size f.width.bits (index_of k)) os (length os) 0))
+    → Ok (all_of f.width.bits (unwrap_or f.flow Flex) (unwrap_or f.c0 0) (unwrap_or f.c1 0) (set f.orders i (Some list)))
+    ≡ with_operand place (part_operands part) (λ _. found place.bytes.now (reading_at place.at f) part)
+parts_put f place part k i list is at e =
+    subst (λ p. Ok (all_of f.width.bits (unwrap_or f.flow Flex) (unwrap_or f.c0 0) (unwrap_or f.c1 0) (set f.orders i (Some list)))
+    ≡ with_operand place (part_operands p) (λ _. found place.bytes.now (reading_at place.at f) p))
+    (sym is) (put _ _ _ _ f.orders k i place.at _ (operand place.bytes.now place.at 64) list _ at e)
+
+-- and what was given then
+pub given_put : (a b c : Bool) (orders : List (Option (List ℕ))) (k : OrderName) (i : ℕ) (list : List ℕ) → i ≡ index_of k
+    → a ∷ (b ∷ (c ∷ map is_some (set orders i (Some list)))) ≡ set (a ∷ (b ∷ (c ∷ map is_some orders))) (place_of (Order k)) true
+given_put a b c orders k i list is =
+    let e : 3 + i ≡ suc (suc (suc i)) = omega arith in
+    rw (← is, e, map-set is_some orders i (Some list)) refl
