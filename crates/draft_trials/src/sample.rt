@@ -1,57 +1,59 @@
 // Drafts spelt out for the tests.
-use draft::draft::Draft;
 use draft::read::read;
 use spelling::fault::{Fault, Reason};
+use std::alloc::{AllocError, Global};
 use std::process::Abort;
-use std::test::Fail;
 
 // The bytes of a draft, and where its last command stands.
-#[derive(Clone, Copy)]
+#[derive(Drop)]
 pub(crate) struct Sample {
-    bytes: [u8; 512],
-    len: usize,
+    bytes: Vec<u8>,
     pub(crate) last: usize,
 }
 
 impl Sample {
-    pub(crate) fn new() -> Sample {
+    pub(crate) fn new(alloc: Global) -> Sample {
         Sample {
-            bytes: [0; 512],
-            len: 0,
+            bytes: Vec::new(alloc),
             last: 0,
         }
     }
 
-    pub(crate) fn push(&mut self, byte: u8) {
-        if let Some(place) = self.bytes.get_mut(self.len) {
-            *place = byte;
-            self.len = self.len.saturating_add(1);
-        }
+    pub(crate) fn push(&mut self, byte: u8) -> Result<(), AllocError> {
+        self.bytes.push(byte)?;
+        Ok(())
     }
 
-    pub(crate) fn number(&mut self, number: u64) {
-        for byte in number.to_le_bytes() {
-            self.push(byte);
+    // A byte so many times.
+    pub(crate) fn repeat(&mut self, byte: u8, times: usize) -> Result<(), AllocError> {
+        for _ in 0..times {
+            self.push(byte)?;
         }
+        Ok(())
+    }
+
+    pub(crate) fn number(&mut self, number: u64) -> Result<(), AllocError> {
+        self.bytes.extend_from_slice(&number.to_le_bytes())
     }
 
     // Each of the first `size` bits to itself, and zeros after them.
-    pub(crate) fn plain(&mut self, size: u8) {
+    pub(crate) fn plain(&mut self, size: u8) -> Result<(), AllocError> {
         for place in 0..64 {
-            self.push(if place < size { place } else { 0 });
+            self.push(if place < size { place } else { 0 })?;
         }
+        Ok(())
     }
 
     // A letter and what belongs to it: the width, 0, or the plain list of the size.
-    pub(crate) fn command(&mut self, width: u8, letter: char) {
-        self.last = self.len;
-        self.push(if letter.is_ascii() { letter as u8 } else { 0 });
+    pub(crate) fn command(&mut self, width: u8, letter: char) -> Result<(), AllocError> {
+        self.last = self.len();
+        self.push(if letter.is_ascii() { letter as u8 } else { 0 })?;
         match letter {
             'W' => self.push(width),
             'A' | 'B' => self.number(0),
             '0' | '1' | '2' | '3' => self.plain(width),
             '4' | '5' => self.plain(64),
-            _ => {}
+            _ => Ok(()),
         }
     }
 
@@ -62,46 +64,29 @@ impl Sample {
     }
 
     pub(crate) fn len(&self) -> usize {
-        self.len
+        self.bytes.len()
     }
 
     // The first bytes, as many as asked for and there.
     pub(crate) fn first(&self, len: usize) -> &[u8] {
-        self.bytes.get(..len.min(self.len)).unwrap_or(&[])
+        self.bytes.get(..len).unwrap_or(&self.bytes)
     }
 
     pub(crate) fn all(&self) -> &[u8] {
-        self.first(self.len)
+        &self.bytes
     }
 }
 
 // The commands of these letters.
-pub(crate) fn spelt(width: u8, letters: &str) -> Sample {
-    let mut sample = Sample::new();
+pub(crate) fn spelt(alloc: Global, width: u8, letters: &str) -> Result<Sample, AllocError> {
+    let mut sample = Sample::new(alloc);
     for letter in letters.chars() {
-        sample.command(width, letter);
+        sample.command(width, letter)?;
     }
-    sample
+    Ok(sample)
 }
 
-pub(crate) fn accepted(bytes: &[u8]) -> Result<Draft, Fail> {
-    match read(bytes) {
-        Ok(draft) => Ok(draft),
-        Err(fault) => Err(Fail::new(fault.offset)),
-    }
-}
-
-pub(crate) fn faulty(
-    rt: &impl Abort,
-    bytes: &[u8],
-    reason: Reason,
-    offset: usize,
-) -> Result<(), Fail> {
-    match read(bytes) {
-        Ok(_) => Err(Fail::new("accepted")),
-        Err(fault) => {
-            assert_eq!(rt; fault, Fault { reason, offset });
-            Ok(())
-        },
-    }
+// The bytes are no draft, and this is their fault.
+pub(crate) fn faulty(rt: &impl Abort, bytes: &[u8], reason: Reason, offset: usize) {
+    assert_eq!(rt; read(bytes).err(), Some(Fault { reason, offset }));
 }

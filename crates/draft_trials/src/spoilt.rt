@@ -5,22 +5,35 @@ use std::process::Abort;
 use std::test::Fail;
 
 // The fault is at the last of these commands.
-fn last(rt: &impl Abort, width: u8, letters: &str, reason: Reason) -> Result<(), Fail> {
-    let sample = spelt(width, letters);
-    faulty(rt, sample.all(), reason, sample.last)
+fn last(
+    rt: &(impl Abort + AllocGlobal),
+    width: u8,
+    letters: &str,
+    reason: Reason,
+) -> Result<(), Fail> {
+    let sample = spelt(rt.alloc(), width, letters)?;
+    faulty(rt, sample.all(), reason, sample.last);
+    Ok(())
 }
 
 // The last command as a letter alone, with no operand.
-fn bare(rt: &impl Abort, width: u8, letters: &str, letter: u8, reason: Reason) -> Result<(), Fail> {
-    let mut sample = spelt(width, letters);
+fn bare(
+    rt: &(impl Abort + AllocGlobal),
+    width: u8,
+    letters: &str,
+    letter: u8,
+    reason: Reason,
+) -> Result<(), Fail> {
+    let mut sample = spelt(rt.alloc(), width, letters)?;
     let at = sample.len();
-    sample.push(letter);
-    faulty(rt, sample.all(), reason, at)
+    sample.push(letter)?;
+    faulty(rt, sample.all(), reason, at);
+    Ok(())
 }
 
 #[test]
 fn each_command_at_fault(rt: HostRuntime) -> Result<(), Fail> {
-    faulty(&rt, &[], Reason::NoByte, 0)?;
+    faulty(&rt, &[], Reason::NoByte, 0);
     last(&rt, 24, "X", Reason::NoCommand)?;
     last(&rt, 24, "WFA0123X", Reason::NoCommand)?;
     last(&rt, 24, "W6", Reason::NoCommand)?;
@@ -38,7 +51,6 @@ fn each_command_at_fault(rt: HostRuntime) -> Result<(), Fail> {
     }
     for width in [0, 23, 65, 255] {
         last(&rt, width, "W", Reason::BadWidth)?;
-        last(&rt, width, "W", Reason::BadWidth)?;
     }
     for letters in [
         "WZ", "WA0123Z", "WF0123Z", "WFA123Z", "WFA023Z", "WFA013Z", "WFA012Z",
@@ -54,30 +66,36 @@ fn each_command_at_fault(rt: HostRuntime) -> Result<(), Fail> {
 #[test]
 fn nothing_after_the_end(rt: HostRuntime) -> Result<(), Fail> {
     for byte in [0, b'Z', b'W', 255] {
-        let mut sample = spelt(24, "WFA0123Z");
+        let mut sample = spelt(rt.alloc(), 24, "WFA0123Z")?;
         let end = sample.len();
-        sample.push(byte);
-        faulty(&rt, sample.all(), Reason::GoesOn, end)?;
-        sample.push(byte);
-        faulty(&rt, sample.all(), Reason::GoesOn, end)?;
+        sample.push(byte)?;
+        faulty(&rt, sample.all(), Reason::GoesOn, end);
+        sample.push(byte)?;
+        faulty(&rt, sample.all(), Reason::GoesOn, end);
     }
     Ok(())
 }
 
 // C0 after these commands, one too large and the largest there is, and then one that fits.
-fn constants_at_fault(rt: &impl Abort, width: u8, letters: &str, least: u64) -> Result<(), Fail> {
+fn constants_at_fault(
+    rt: &(impl Abort + AllocGlobal),
+    width: u8,
+    letters: &str,
+    least: u64,
+) -> Result<(), Fail> {
     for constant in [least, u64::MAX] {
-        let mut sample = spelt(width, letters);
+        let mut sample = spelt(rt.alloc(), width, letters)?;
         let at = sample.len();
-        sample.push(b'A');
-        sample.number(constant);
-        faulty(rt, sample.all(), Reason::TooLarge, at)?;
+        sample.push(b'A')?;
+        sample.number(constant)?;
+        faulty(rt, sample.all(), Reason::TooLarge, at);
     }
-    let mut fits = spelt(width, letters);
-    fits.push(b'A');
-    fits.number(least.saturating_sub(1));
+    let mut fits = spelt(rt.alloc(), width, letters)?;
+    fits.push(b'A')?;
+    fits.number(least.saturating_sub(1))?;
     let at = fits.len();
-    faulty(rt, fits.all(), Reason::NoByte, at)
+    faulty(rt, fits.all(), Reason::NoByte, at);
+    Ok(())
 }
 
 #[test]
@@ -91,13 +109,17 @@ fn constants_that_do_not_fit(rt: HostRuntime) -> Result<(), Fail> {
 }
 
 // The list of the last command, with one place at a time made too large, or after the size not zero.
-fn places_at_fault(rt: &impl Abort, letters: &str, size: usize) -> Result<(), Fail> {
+fn places_at_fault(
+    rt: &(impl Abort + AllocGlobal),
+    letters: &str,
+    size: usize,
+) -> Result<(), Fail> {
     for place in 0..64 {
-        let mut sample = spelt(33, letters);
+        let mut sample = spelt(rt.alloc(), 33, letters)?;
         let at = sample.last;
         let wrong = if place < size { 64 } else { 1 };
         sample.set(at.saturating_add(1).saturating_add(place), wrong);
-        faulty(rt, sample.all(), Reason::NoOrder(place), at)?;
+        faulty(rt, sample.all(), Reason::NoOrder(place), at);
     }
     Ok(())
 }
@@ -109,10 +131,11 @@ fn lists_that_are_no_orders(rt: HostRuntime) -> Result<(), Fail> {
     places_at_fault(&rt, "W3", 33)?;
     places_at_fault(&rt, "WFA0123B4", 64)?;
     places_at_fault(&rt, "WFAB01235", 64)?;
-    let mut repeated = spelt(24, "W0");
+    let mut repeated = spelt(rt.alloc(), 24, "W0")?;
     let at = repeated.last;
     repeated.set(at.saturating_add(24), 0);
-    faulty(&rt, repeated.all(), Reason::NoOrder(23), at)
+    faulty(&rt, repeated.all(), Reason::NoOrder(23), at);
+    Ok(())
 }
 
 #[test]
@@ -126,15 +149,13 @@ fn the_earlier_question_decides(rt: HostRuntime) -> Result<(), Fail> {
     bare(&rt, 24, "W", b'4', Reason::NoUse)?;
     // A missing operand before what it would be.
     bare(&rt, 24, "", b'W', Reason::NoByte)?;
-    let mut short = spelt(24, "WF");
+    let mut short = spelt(rt.alloc(), 24, "WF")?;
     let at = short.len();
-    short.push(b'A');
-    for _ in 0..7 {
-        short.push(255);
-    }
-    faulty(&rt, short.all(), Reason::NoByte, at)?;
-    short.push(255);
-    faulty(&rt, short.all(), Reason::TooLarge, at)?;
+    short.push(b'A')?;
+    short.repeat(255, 7)?;
+    faulty(&rt, short.all(), Reason::NoByte, at);
+    short.push(255)?;
+    faulty(&rt, short.all(), Reason::TooLarge, at);
     // A command that is not new, or of no use, before what its operand would be.
     for (letters, letter, reason) in [
         ("W", b'W', Reason::OutOfSequence),
@@ -142,35 +163,32 @@ fn the_earlier_question_decides(rt: HostRuntime) -> Result<(), Fail> {
         ("W0", b'0', Reason::OutOfSequence),
         ("W", b'4', Reason::NoUse),
     ] {
-        let mut sample = spelt(24, letters);
+        let mut sample = spelt(rt.alloc(), 24, letters)?;
         let at = sample.len();
-        sample.push(letter);
-        for _ in 0..64 {
-            sample.push(255);
-        }
-        faulty(&rt, sample.all(), reason, at)?;
+        sample.push(letter)?;
+        sample.repeat(255, 64)?;
+        faulty(&rt, sample.all(), reason, at);
     }
     // A list that is cut off before the place at fault in what there is of it.
-    let mut list = spelt(24, "W");
-    list.push(b'0');
-    for _ in 0..63 {
-        list.push(255);
-    }
-    faulty(&rt, list.all(), Reason::NoByte, 2)?;
-    list.push(255);
-    faulty(&rt, list.all(), Reason::NoOrder(0), 2)?;
+    let mut list = spelt(rt.alloc(), 24, "W")?;
+    list.push(b'0')?;
+    list.repeat(255, 63)?;
+    faulty(&rt, list.all(), Reason::NoByte, 2);
+    list.push(255)?;
+    faulty(&rt, list.all(), Reason::NoOrder(0), 2);
     // Z first before what is missing and what follows.
-    faulty(&rt, b"ZZ", Reason::OutOfSequence, 0)?;
+    faulty(&rt, b"ZZ", Reason::OutOfSequence, 0);
     // Something missing before bytes after the end.
-    let mut both = spelt(24, "WFA012Z");
-    both.push(b'Z');
-    faulty(&rt, both.all(), Reason::Missing, both.last)?;
+    let mut both = spelt(rt.alloc(), 24, "WFA012Z")?;
+    both.push(b'Z')?;
+    faulty(&rt, both.all(), Reason::Missing, both.last);
     // An earlier command before a later one.
-    let mut wide = Sample::new();
-    wide.push(b'W');
-    wide.push(65);
-    wide.push(b'X');
-    faulty(&rt, wide.all(), Reason::BadWidth, 0)
+    let mut wide = Sample::new(rt.alloc());
+    wide.push(b'W')?;
+    wide.push(65)?;
+    wide.push(b'X')?;
+    faulty(&rt, wide.all(), Reason::BadWidth, 0);
+    Ok(())
 }
 
 #[test]

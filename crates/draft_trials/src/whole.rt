@@ -1,5 +1,6 @@
 // Whole drafts, in any order of their commands, and everything short of one.
-use crate::sample::{Sample, accepted, faulty, spelt};
+use crate::sample::{Sample, faulty, spelt};
+use draft::read::read;
 use spelling::fault::Reason;
 use spelling::parts::Flow;
 use std::process::Abort;
@@ -14,7 +15,7 @@ fn whole_drafts_are_accepted(rt: HostRuntime) -> Result<(), Fail> {
         (33, "WFAB012345Z"),
         (64, "W543210BAPZ"),
     ] {
-        let draft = accepted(spelt(width, letters).all())?;
+        let draft = read(spelt(rt.alloc(), width, letters)?.all())?;
         assert_eq!(rt; draft.parts().width, width);
     }
     Ok(())
@@ -22,17 +23,17 @@ fn whole_drafts_are_accepted(rt: HostRuntime) -> Result<(), Fail> {
 
 #[test]
 fn parts_are_found(rt: HostRuntime) -> Result<(), Fail> {
-    let mut sample = Sample::new();
-    sample.command(40, 'W');
-    sample.push(b'B');
-    sample.number(0xfedc_ba98_7654_3210);
-    sample.command(40, 'P');
-    sample.push(b'A');
-    sample.number(0xff_ffff_ffff);
+    let mut sample = Sample::new(rt.alloc());
+    sample.command(40, 'W')?;
+    sample.push(b'B')?;
+    sample.number(0xfedc_ba98_7654_3210)?;
+    sample.command(40, 'P')?;
+    sample.push(b'A')?;
+    sample.number(0xff_ffff_ffff)?;
     for letter in "543210Z".chars() {
-        sample.command(40, letter);
+        sample.command(40, letter)?;
     }
-    let draft = accepted(sample.all())?;
+    let draft = read(sample.all())?;
     let parts = draft.parts();
     assert_eq!(rt; parts.flow, Flow::Cpa);
     assert_eq!(rt; parts.c0, 0xff_ffff_ffff);
@@ -44,30 +45,31 @@ fn parts_are_found(rt: HostRuntime) -> Result<(), Fail> {
 }
 
 // The last command that starts in the first `len` bytes or right after them.
-fn start_before(width: u8, letters: &str, len: usize) -> usize {
-    let mut sample = Sample::new();
+fn start_before(
+    rt: &(impl Abort + AllocGlobal),
+    width: u8,
+    letters: &str,
+    len: usize,
+) -> Result<usize, Fail> {
+    let mut sample = Sample::new(rt.alloc());
     let mut start = 0;
     for letter in letters.chars() {
         if sample.len() <= len {
             start = sample.len();
         }
-        sample.command(width, letter);
+        sample.command(width, letter)?;
     }
-    start
+    Ok(start)
 }
 
 // Cut at every length: at fault is the command that is cut off, or the one that is not there.
-fn cut_everywhere(rt: &impl Abort, width: u8, letters: &str) -> Result<(), Fail> {
-    let sample = spelt(width, letters);
+fn cut_everywhere(rt: &(impl Abort + AllocGlobal), width: u8, letters: &str) -> Result<(), Fail> {
+    let sample = spelt(rt.alloc(), width, letters)?;
     for len in 0..sample.len() {
-        faulty(
-            rt,
-            sample.first(len),
-            Reason::NoByte,
-            start_before(width, letters, len),
-        )?;
+        let start = start_before(rt, width, letters, len)?;
+        faulty(rt, sample.first(len), Reason::NoByte, start);
     }
-    accepted(sample.all())?;
+    read(sample.all())?;
     Ok(())
 }
 
@@ -77,47 +79,51 @@ fn cut_at_every_length(rt: HostRuntime) -> Result<(), Fail> {
     cut_everywhere(&rt, 33, "W5B3P1A024Z")
 }
 
+// A whole draft with one byte changed.
+fn changed(rt: &(impl Abort + AllocGlobal), at: usize, byte: u8) -> Result<Sample, Fail> {
+    let mut sample = spelt(rt.alloc(), 24, "WFA0123Z")?;
+    sample.set(at, byte);
+    Ok(sample)
+}
+
 // Every byte at the first three places.
 #[test]
 fn one_byte_changed(rt: HostRuntime) -> Result<(), Fail> {
     for byte in 0..=255 {
-        let mut first = spelt(24, "WFA0123Z");
-        let mut second = first;
-        let mut third = first;
-        first.set(0, byte);
-        second.set(1, byte);
-        third.set(2, byte);
+        let first = changed(&rt, 0, byte)?;
         match byte as char {
             'W' => {
-                accepted(first.all())?;
+                read(first.all())?;
             }
             'F' | 'P' | 'A' | 'B' | 'Z' | '0'..='5' => faulty(
                 &rt,
                 first.all(),
                 Reason::OutOfSequence,
                 0,
-            )?,
-            _ => faulty(&rt, first.all(), Reason::NoCommand, 0)?,
+            ),
+            _ => faulty(&rt, first.all(), Reason::NoCommand, 0),
         }
+        let second = changed(&rt, 1, byte)?;
         match byte {
             24 => {
-                accepted(second.all())?;
+                read(second.all())?;
             }
             // The lists are of 24 bits: bit 0 stands at place 24 again.
-            25..=64 => faulty(&rt, second.all(), Reason::NoOrder(24), 12)?,
-            _ => faulty(&rt, second.all(), Reason::BadWidth, 0)?,
+            25..=64 => faulty(&rt, second.all(), Reason::NoOrder(24), 12),
+            _ => faulty(&rt, second.all(), Reason::BadWidth, 0),
         }
+        let third = changed(&rt, 2, byte)?;
         match byte as char {
             'F' | 'P' => {
-                accepted(third.all())?;
+                read(third.all())?;
             }
-            'W' => faulty(&rt, third.all(), Reason::OutOfSequence, 2)?,
-            'B' | '4' | '5' => faulty(&rt, third.all(), Reason::NoUse, 2)?,
-            'Z' => faulty(&rt, third.all(), Reason::Missing, 2)?,
+            'W' => faulty(&rt, third.all(), Reason::OutOfSequence, 2),
+            'B' | '4' | '5' => faulty(&rt, third.all(), Reason::NoUse, 2),
+            'Z' => faulty(&rt, third.all(), Reason::Missing, 2),
             // The letters and bytes after it become its operand.
-            'A' => faulty(&rt, third.all(), Reason::NoCommand, 11)?,
-            '0'..='3' => faulty(&rt, third.all(), Reason::NoOrder(0), 2)?,
-            _ => faulty(&rt, third.all(), Reason::NoCommand, 2)?,
+            'A' => faulty(&rt, third.all(), Reason::NoCommand, 11),
+            '0'..='3' => faulty(&rt, third.all(), Reason::NoOrder(0), 2),
+            _ => faulty(&rt, third.all(), Reason::NoCommand, 2),
         }
     }
     Ok(())

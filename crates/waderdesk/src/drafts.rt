@@ -1,6 +1,6 @@
 // What a draft says, or why its bytes are none.
 use draft::read::read;
-use spelling::parts::{Flow, Parts};
+use spelling::parts::Parts;
 use std::{fs, io};
 
 pub fn tell_draft(rt: &HostRuntime, path: &str) -> anyhow::Result<()> {
@@ -19,10 +19,7 @@ pub fn show_spoilt(rt: &impl Print) -> io::Result<()> {
     tell_fault(rt, b"W\x18FX")?;
     tell_fault(rt, b"W\x18FA\x07\x00\x00")?;
     let mut all_to_one = [0; 68];
-    all_to_one[0] = b'W';
-    all_to_one[1] = 24;
-    all_to_one[2] = b'F';
-    all_to_one[3] = b'0';
+    all_to_one[..4].copy_from_slice(b"W\x18F0");
     tell_fault(rt, &all_to_one)
 }
 
@@ -35,8 +32,7 @@ fn tell_fault(rt: &impl Print, bytes: &[u8]) -> io::Result<()> {
 
 fn tell_parts(rt: &impl Print, parts: &Parts) -> io::Result<()> {
     let wide = parts.width > 32;
-    let flow = name_of(parts.flow);
-    println!(rt; "width {}, flow {flow}", parts.width)?;
+    println!(rt; "width {}, flow {}", parts.width, parts.flow)?;
     println!(rt; "C0 {}", parts.c0)?;
     if wide {
         println!(rt; "C1 {}", parts.c1)?;
@@ -49,13 +45,6 @@ fn tell_parts(rt: &impl Print, parts: &Parts) -> io::Result<()> {
         }
     }
     Ok(())
-}
-
-fn name_of(flow: Flow) -> &'static str {
-    match flow {
-        Flow::Flex => "Flex",
-        Flow::Cpa => "CPA",
-    }
 }
 
 fn tell_order(rt: &impl Print, k: usize, list: &[u8; 64], size: u8) -> io::Result<()> {
