@@ -24,13 +24,13 @@ pub sound_read : (n m at : ℕ) (there : Bool) (os list : List ℕ) → Ok list 
     → Ok list ≡ ask there NoByte at (list_or at os (first_fault n os (length os) 0))
 sound_read n m at true os list e same sound =
     let is : os ≡ list = cc in rw (is, ← same) (ap (list_or at list) (none_at_fault m list sound))
-sound_read n m at false os list e same sound = let z : ◌≡◌ {A = ℕ} 0 1 = cc in absurd (omega arith)
+sound_read n m at false os list e same sound = cc
 
 pub fault_read : (n m at p : ℕ) (there : Bool) (os list : List ℕ) → Ok list ≡ ask there NoByte at (Ok os) → m ≡ n → FirstFault m list p
     → Err (record { reason = NoOrder p; offset = at }) ≡ ask there NoByte at (list_or at os (first_fault n os (length os) 0))
 fault_read n m at p true os list e same fault =
     let is : os ≡ list = cc in rw (is, ← same) (ap (list_or at list) (first_found m list p fault))
-fault_read n m at p false os list e same fault = let z : ◌≡◌ {A = ℕ} 0 1 = cc in absurd (omega arith)
+fault_read n m at p false os list e same fault = cc
 
 abbrev all_of : ℕ → Flow → ℕ → ℕ → List (Option (List ℕ)) → Parts
 all_of w f c d orders = record { width = w; flow = f; c0 = c; c1 = d; orders = map list_of orders }
@@ -44,8 +44,8 @@ parts_or at p o = elim o [ Some why ↦ Err (record { reason = why; offset = at 
 put : (w : ℕ) (f : Flow) (c d : ℕ) (orders : List (Option (List ℕ))) (k : OrderName) (i at : ℕ) (there : Bool) (os list : List ℕ) (o : Option ℕ)
     → i ≡ index_of k → Ok list ≡ ask there NoByte at (list_or at os o)
     → Ok (all_of w f c d (set orders i (Some list))) ≡ ask there NoByte at (parts_or at (put_part (Order k) os (all_of w f c d orders)) (why_of o))
-put w f c d orders k i at false os list o is e = let z : ◌≡◌ {A = ℕ} 0 1 = cc in absurd (omega arith)
-put w f c d orders k i at true os list (Some p) is e = let z : ◌≡◌ {A = ℕ} 0 1 = cc in absurd (omega arith)
+put w f c d orders k i at false os list o is e = cc
+put w f c d orders k i at true os list (Some p) is e = cc
 put w f c d orders k i at true os list None is e =
     let same : list ≡ os = cc in rw (← is, ← same, map-set list_of orders i (Some list)) refl
 

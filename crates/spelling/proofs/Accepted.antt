@@ -1,7 +1,7 @@
 -- What an answer of the reader tells: a draft that is spelt has sound parts, and a fault is the first no.
 use Rattle.std.proofs.Common.{◌≡◌, ℕ, zero, suc, ◌+◌, ◌^◌, ◌<◌, ◌≤◌, true, false, ◌⊎◌, List, [], ◌∷◌, length, get_or, Ok, Err, Result, sym, refl, ap, ◌∙◌, subst, inl, inr, arith}
 use Rattle.std.specs.List.{AllByRecursion}
-use Rattle.std.proofs.lemmas.Bool.{cases_lt, cases_eq, both_ways}
+use Rattle.std.proofs.lemmas.Bool.{cases_lt, cases_eq}
 use Rattle.bits.specs.Orders.{Sound}
 use Rattle.spelling.specs.declared.parts.Parts.{Parts}
 use Rattle.spelling.specs.declared.command.Part.{Part as PartT}
@@ -59,7 +59,7 @@ spells_sound bytes p s =
     record {
       least = s.least;
       most = s.most;
-      small = constant n p (at 1 (omega arith) (λ e. absurd (both_ways (wide_place 1) refl e)));
+      small = constant n p (at 1 (omega arith) (λ e. cc));
       six = s.six;
       long = λ j few. split j few (cases_lt j 4) (cases_lt 32 n);
       r0 = (low 0 (omega arith) refl).sound;
@@ -77,7 +77,7 @@ spells_sound bytes p s =
     at k few wide = found n p k s.items (s.all k (few, wide)) s.right s.has
 
     low : (j : ℕ) → j < 4 → wide_place (3 + j) ≡ false → Listed n p j
-    low j small narrow = listed n p j (at (3 + j) (omega arith) (λ e. absurd (both_ways (wide_place (3 + j)) narrow e)))
+    low j small narrow = listed n p j (at (3 + j) (omega arith) (λ e. cc))
 
     high : (j : ℕ) → j < 6 → 32 < n → Listed n p j
     high j small wide = listed n p j (at (3 + j) (omega arith) (λ e. wide))
@@ -108,5 +108,5 @@ told bytes (Ok p) e = let s = accepted_spells (length bytes + 1) bytes p (sym e)
 told bytes (Err f) e = (
   fault_first_no (length bytes + 1) bytes f (omega arith) (sym e),
   λ p s. let bad : ◌≡◌ {A = Result Parts Fault} (Err f) (Ok p) = e ∙ spells_accepted bytes p s (length bytes + 1) (omega arith) in
-      let z : ◌≡◌ {A = ℕ} 0 1 = cc in omega arith,
+      cc,
 )

@@ -44,7 +44,7 @@ grown bytes s p next e = go (part_fault s.parts.width p (operand bytes s.at (par
   where
     go : (o : Option Reason) → part_fault s.parts.width p (operand bytes s.at (part_operands p)) ≡ o → at_fault bytes s p o ≡ Ok (More next) → Grown bytes s p next
     go None is f = record { well = is; is = cc }
-    go (Some why) is f = let z : ◌≡◌ {A = ℕ} 0 1 = cc in absurd (omega arith)
+    go (Some why) is f = cc
 
 -- and at Z
 pub record Ended (bytes : List ℕ) (s : Reading) (t : Turn) : Type 0 where
@@ -62,7 +62,7 @@ ended bytes s t e =
 pub not_end : (bytes : List ℕ) (s next : Reading) → after bytes s End ≡ Ok (More next) → ⊥
 not_end bytes s next e =
     let i = (ended bytes s (More next) e).is in
-    let z : ◌≡◌ {A = ℕ} 0 1 = cc in absurd (omega arith)
+    cc
 
 same_width : (p : PartT) (os : List ℕ) (a : Parts) → (put_part p os a).width ≡ a.width
 same_width (Flow f) os a = refl

@@ -2,7 +2,7 @@
 use Rattle.std.proofs.Common.{◌≡◌, ℕ, zero, suc, ◌+◌, ◌<◌, ◌≤◌, Bool, true, false, ◌&&◌, ◌||◌, eqb, leb, ◌⊎◌, List, [], ◌∷◌, ◌++◌, length, get_or, drop, Some, None, Ok, Option, Result, sym, refl, ap, ◌∙◌, subst, inl, inr, arith}
 use Rattle.std.specs.List.{AllByRecursion}
 use Rattle.std.proofs.lemmas.List.{drop_all}
-use Rattle.std.proofs.lemmas.Bool.{and_parts, and_from, or_cases, or_left, or_right, lt-ltb, leb-true, le-leb, eq-eqb, true≢false, cases_lt}
+use Rattle.std.proofs.lemmas.Bool.{and_parts, and_from, or_cases, or_left, or_right, lt-ltb, leb-true, le-leb, eq-eqb, cases_lt}
 use Rattle.spelling.specs.declared.parts.Parts.{Parts}
 use Rattle.spelling.specs.declared.command.Part.{Part as PartT}
 use Rattle.spelling.specs.declared.command.Command.{Command}
@@ -43,8 +43,8 @@ begun bytes next e = go (asked bytes start (More next) e)
           rest = b.0;
           follows = subst (λ x. Follows bytes x (get_or bytes 1 0) [] b.0) (sym w.is) (follows_width bytes (get_or bytes 1 0) b.0 w.least w.most b.1);
         }
-    go (Part p, a) = absurd (true≢false (sym a.sequence))
-    go (End, a) = absurd (true≢false (sym a.sequence))
+    go (Part p, a) = cc
+    go (End, a) = cc
 
 pub width_read : (bytes : List ℕ) (n : ℕ) (rest : List ℕ) → 24 ≤ n → n ≤ 64 → bytes ≡ 87 ∷ (n ∷ rest) → turn bytes start ≡ Ok (More (after_width n))
 width_read bytes n rest least most e = ap (λ b. turn b start) e ∙ answered (87 ∷ (n ∷ rest)) start Width (More (after_width n)) (record {
@@ -63,14 +63,14 @@ width_not_done bytes s p e =
     let w : Reading = record { at = s.at + 2; given = s.given; parts = with_width (get_or bytes (s.at + 1) 0) s.parts } in
     let f : ◌≡◌ {A = Result Turn Fault} (Ok (More w)) (Ok (Done p)) =
     (ask_ok (leb 24 (get_or bytes (s.at + 1) 0) && leb (get_or bytes (s.at + 1) 0) 64) BadWidth s.at (Ok (More w)) (Done p) e).1 in
-    let z : ◌≡◌ {A = ℕ} 0 1 = cc in absurd (omega arith)
+    cc
 
 part_not_done : (bytes : List ℕ) (s : Reading) (q : PartT) (p : Parts) → after bytes s (Part q) ≡ Ok (Done p) → ⊥
 part_not_done bytes s q p e = go (part_fault s.parts.width q (operand bytes s.at (part_operands q))) e
   where
     go : (o : Option Reason) → at_part s q (operand bytes s.at (part_operands q)) o ≡ Ok (Done p) → ⊥
-    go None f = let z : ◌≡◌ {A = ℕ} 0 1 = cc in absurd (omega arith)
-    go (Some why) f = let z : ◌≡◌ {A = ℕ} 0 1 = cc in absurd (omega arith)
+    go None f = cc
+    go (Some why) f = cc
 
 pub not_begun_done : (bytes : List ℕ) (p : Parts) → turn bytes start ≡ Ok (Done p) → ⊥
 not_begun_done bytes p e = go (asked bytes start (Done p) e)
@@ -78,7 +78,7 @@ not_begun_done bytes p e = go (asked bytes start (Done p) e)
     go : (c : Command) × Asked bytes start c (Done p) → ⊥
     go (Width, a) = width_not_done bytes start p a.leads
     go (Part q, a) = part_not_done bytes start q p a.leads
-    go (End, a) = absurd (true≢false (sym a.sequence))
+    go (End, a) = cc
 
 nine_cases : (P : ℕ → Type 0) → P 0 → P 1 → P 2 → P 3 → P 4 → P 5 → P 6 → P 7 → P 8 → (k : ℕ) → k < 9 → P k
 nine_cases P a b c d e f g i j zero h = a
@@ -135,7 +135,7 @@ complete_from n given all =
     (go (cases_lt 32 n))
   where
     low : (k : ℕ) → k < 9 → wide_place k ≡ false → get_or given k false ≡ true
-    low k h e = all k (h, λ f. absurd (true≢false (sym f ∙ e)))
+    low k h e = all k (h, λ f. cc)
 
     go : (32 < n) ⊎ (n ≤ 32) → (leb n 32 || above given) ≡ true
     go (inl w) = or_right (leb n 32) (above given) (and_from _ _ (all 2 (omega arith, λ f. w)) (and_from _ _ (all 7 (omega arith, λ f. w)) (all 8 (omega arith, λ f. w))))

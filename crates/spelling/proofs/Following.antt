@@ -3,7 +3,7 @@ use Rattle.std.proofs.Common.{◌≡◌, ℕ, zero, suc, ◌+◌, ◌<◌, ◌�
 use Rattle.std.specs.List.{AllByRecursion}
 use Rattle.std.proofs.lemmas.List.{append-nil, append_assoc, length-append, length-set, get_or-set_same, get_or-set_other, get_or_at, drop_at, drop-drop, take_at, drop_more, take-append-drop, length-take-le, length-drop}
 use Rattle.std.proofs.ByRecursion.{All-push}
-use Rattle.std.proofs.lemmas.Bool.{and_parts, and_from, not-true, not_from_false, lt-ltb, cases_Bool, eqb-true, both_ways, true≢false, cases_eq}
+use Rattle.std.proofs.lemmas.Bool.{and_parts, and_from, not-true, not_from_false, lt-ltb, cases_Bool, eqb-true, both_ways, cases_eq}
 use Rattle.spelling.specs.declared.parts.Parts.{Parts}
 use Rattle.spelling.specs.declared.command.Part.{Part as PartT}
 use Rattle.spelling.specs.declared.command.Part.TheVariants.{Flow, C0, C1, Order}
@@ -105,7 +105,7 @@ kept_start n = record {
   place = refl;
   wide = refl;
   nine = refl;
-  marks = λ k e. absurd (true≢false (sym e ∙ none_yet 9 k));
+  marks = λ k e. cc (none_yet 9 k);
   marked = λ k g. absurd g;
   six = refl;
   has = tt;

@@ -47,7 +47,7 @@ letter_is l c e =
     named l 51 (Part (Order R3)) _ c refl (
     named l 52 (Part (Order R4)) _ c refl (
     named l 53 (Part (Order R5)) _ c refl (
-    named l 90 End None c refl (λ f. let z : ◌≡◌ {A = ℕ} 0 1 = cc in absurd (omega arith))))))))))))) e
+    named l 90 End None c refl (λ f. cc)))))))))))) e
 
 pub letter_means : (c : Command) → command_of (letter c) ≡ Some c
 letter_means Width = refl
@@ -86,7 +86,7 @@ none_before n list (suc k) i e j a b = go (fault_at n list i) refl e (cases_eq i
   where
     go : (t : Bool) → fault_at n list i ≡ t → ◌≡◌ {A = Option ℕ} (elim t [ true ↦ Some i | false ↦ first_fault n list k (suc i) ]) None → (i ≡ j) ⊎ (i ≡ j → ⊥)
         → (first_fault n list k (suc i) ≡ None → suc i ≤ j → fault_at n list j ≡ false) → fault_at n list j ≡ false
-    go true is f w later = let z : ◌≡◌ {A = ℕ} 0 1 = cc in absurd (omega arith)
+    go true is f w later = cc
     go false is f (inl x) later = ap (fault_at n list) (sym x) ∙ is
     go false is f (inr x) later = later f (omega arith)
 
@@ -98,14 +98,14 @@ order_why o = elim o [ None ↦ None | Some p ↦ Some (NoOrder p) ]
 
 order_none : (o : Option ℕ) → order_why o ≡ None → o ≡ None
 order_none None e = refl
-order_none (Some p) e = let z : ◌≡◌ {A = ℕ} 0 1 = cc in absurd (omega arith)
+order_none (Some p) e = cc
 
 below_from : (a b : ℕ) → cond (ltb a b) None (Some TooLarge) ≡ None → a < b
 below_from a b e = go (ltb a b) refl e
   where
     go : (t : Bool) → ltb a b ≡ t → cond t None (Some TooLarge) ≡ None → a < b
     go true is f = ltb-true a b is
-    go false is f = let z : ◌≡◌ {A = ℕ} 0 1 = cc in absurd (omega arith)
+    go false is f = cc
 
 pub fits_from_none : (n : ℕ) (p : PartT) (os : List ℕ) → part_fault n p os ≡ None → Fits n p os
 fits_from_none n (Flow f) os e = tt
@@ -237,7 +237,7 @@ parts_same n a b is wa wb all ha hb sa sb ua ub =
     ((low 6 (omega arith) refl).lists 3 refl) (four (cases_lt 32 n)) (five (cases_lt 32 n))))
   where
     low : (k : ℕ) → k < 9 → wide_place k ≡ false → Same a b k
-    low k h e = same_given a b is ha hb k (all k (h, λ f. absurd (true≢false (sym f ∙ e))))
+    low k h e = same_given a b is ha hb k (all k (h, λ f. cc))
 
     wide : (k : ℕ) → k < 9 → 32 < n → Same a b k
     wide k h w = same_given a b is ha hb k (all k (h, λ f. w))

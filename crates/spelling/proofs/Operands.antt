@@ -1,9 +1,8 @@
--- Operands: eight bytes as a number, and the first fault of a list.
-use Rattle.std.proofs.Common.{◌≡◌, ℕ, zero, suc, ◌+◌, ◌*◌, ◌<◌, ◌≤◌, true, false, ◌⊎◌, List, length, get_or, take, drop, Some, None, sym, refl, ap, inl, inr, arith}
-use Rattle.std.proofs.lemmas.List.{drop_more}
+-- The first fault of a list.
+use Rattle.std.proofs.Common.{◌≡◌, ℕ, zero, suc, ◌+◌, ◌<◌, ◌≤◌, true, false, ◌⊎◌, List, length, Some, None, sym, refl, ap, inl, inr, arith}
 use Rattle.std.proofs.lemmas.Bool.{cases_eq}
 use Rattle.bits.specs.Orders.{fault_at, FirstFault, Sound}
-use Rattle.spelling.specs.Turns.{number, first_fault}
+use Rattle.spelling.specs.Turns.{first_fault}
 
 none_from : (n : ℕ) (list : List ℕ) (k i : ℕ) → ((j : ℕ) → i ≤ j → j < i + k → fault_at n list j ≡ false) → None ≡ first_fault n list k i
 unfolding first_fault
@@ -26,29 +25,3 @@ none_at_fault n list sound = none_from n list (length list) 0 (λ j a b. sound j
 
 pub first_found : (n : ℕ) (list : List ℕ) (p : ℕ) → FirstFault n list p → Some p ≡ first_fault n list (length list) 0
 first_found n list p f = found_from n list (length list) 0 p (omega arith) (omega (arith, f.within)) f.fault (λ j a b. f.first j b)
-
--- the first byte of some, and the others
-front : (bs : List ℕ) (i j k : ℕ) → j ≡ i + 1 → i < length bs → number (take (suc k) (drop i bs)) ≡ get_or bs i 0 + 256 * number (take k (drop j bs))
-front bs i j k e h = rw (e, drop_more bs i 0 h) refl
-
--- the eight bytes from an offset on
-pub eight : (bs : List ℕ) (i : ℕ) → i + 8 ≤ length bs
-    → get_or bs i 0 + get_or bs (i + 1) 0 * 256 + get_or bs (i + 2) 0 * 65536 + get_or bs (i + 3) 0 * 16777216 + get_or bs (i + 4) 0 * 4294967296
-    + get_or bs (i + 5) 0 * 1099511627776 + get_or bs (i + 6) 0 * 281474976710656 + get_or bs (i + 7) 0 * 72057594037927936
-    ≡ number (take 8 (drop i bs))
-eight bs i h =
-    omega (
-      arith,
-      front bs i (i + 1) 7 (omega arith) (omega arith),
-      front bs (i + 1) (i + 2) 6 (omega arith) (omega arith),
-      front bs (i + 2) (i + 3) 5 (omega arith) (omega arith),
-      front bs (i + 3) (i + 4) 4 (omega arith) (omega arith),
-      front bs (i + 4) (i + 5) 3 (omega arith) (omega arith),
-      front bs (i + 5) (i + 6) 2 (omega arith) (omega arith),
-      front bs (i + 6) (i + 7) 1 (omega arith) (omega arith),
-      front bs (i + 7) (i + 8) 0 (omega arith) (omega arith),
-      last,
-    )
-  where
-    last : number (take 0 (drop (i + 8) bs)) ≡ 0
-    last = refl

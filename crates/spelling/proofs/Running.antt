@@ -20,7 +20,7 @@ leads_to (Ok (More next)) = goes next refl
 
 pub run_none : (bytes : List ℕ) (s : Reading) (p : Parts) → run 0 bytes s ≡ Ok p → ⊥
 unfolding run
-run_none bytes s p e = let z : ◌≡◌ {A = ℕ} 0 1 = cc in absurd (omega arith)
+run_none bytes s p e = cc
 
 pub run_fails : (k : ℕ) (bytes : List ℕ) (s : Reading) (f : Fault) → turn bytes s ≡ Err f → run (suc k) bytes s ≡ Err f
 unfolding run

@@ -1,5 +1,5 @@
 -- The reader accepts what spells a draft and nothing else, and its fault is the first no.
-use Rattle.std.proofs.Common.{◌≡◌, ℕ, zero, suc, ◌+◌, ◌<◌, List, [], ◌∷◌, ◌++◌, length, Ok, Err, Result, sym, refl, ap, ◌∙◌, subst, inl, inr, arith}
+use Rattle.std.proofs.Common.{◌≡◌, ℕ, zero, suc, ◌+◌, ◌<◌, List, [], ◌∷◌, ◌++◌, length, Ok, Err, sym, refl, ap, ◌∙◌, subst, inl, inr, arith}
 use Rattle.std.specs.List.{AllByRecursion}
 use Rattle.std.proofs.lemmas.List.{append-nil, append_assoc}
 use Rattle.spelling.specs.declared.parts.Parts.{Parts}
@@ -13,9 +13,6 @@ use Rattle.spelling.proofs.Following.{Kept, Follows, before_of, follows_width, f
 use Rattle.spelling.proofs.Running.{Leads, fails, ends, goes, leads_to, run_none, run_fails, run_ends, run_goes}
 use Rattle.spelling.proofs.Ends.{begun, width_read, not_begun_done, kept_unused, done_spells, done_read}
 
-apart : {X Y : Type 0} {x : X} {y : Y} → ◌≡◌ {A = Result X Y} (Ok x) (Err y) → ⊥
-apart e = let z : ◌≡◌ {A = ℕ} 0 1 = cc in absurd (omega arith)
-
 -- What is accepted spells a draft.
 
 accepted_from : (k : ℕ) (bytes : List ℕ) (p : Parts) (s : Reading) (n : ℕ) (items : List Item) (rest : List ℕ)
@@ -24,10 +21,9 @@ accepted_from zero bytes p s n items rest f e = absurd (run_none bytes s p e)
 accepted_from (suc k) bytes p s n items rest f e = go (leads_to (turn bytes s)) (λ next js more g. accepted_from k bytes p next n js more g)
   where
     go : Leads (turn bytes s) → ((next : Reading) (js : List Item) (more : List ℕ) → Follows bytes next n js more → run k bytes next ≡ Ok p → Spells bytes p) → Spells bytes p
-    go (fails x h) later = absurd (apart (sym e ∙ run_fails k bytes s x h))
+    go (fails x h) later = cc (run_fails k bytes s x h)
     go (ends q h) later =
-        let l : ◌≡◌ {A = Result Parts Fault} (Ok q) (Ok p) = sym (run_ends k bytes s q h) ∙ e in
-        let m : q ≡ p = cc in
+        let m : q ≡ p = cc (run_ends k bytes s q h) in
         subst (Spells bytes) m (done_spells bytes s n items rest q f h)
     go (goes next h) later =
         let a = another bytes s n items rest next f h in
@@ -38,7 +34,7 @@ accepted_spells zero bytes p e = absurd (run_none bytes start p e)
 accepted_spells (suc k) bytes p e = go (leads_to (turn bytes start))
   where
     go : Leads (turn bytes start) → Spells bytes p
-    go (fails x h) = absurd (apart (sym e ∙ run_fails k bytes start x h))
+    go (fails x h) = cc (run_fails k bytes start x h)
     go (ends q h) = absurd (not_begun_done bytes q h)
     go (goes next h) =
         let b = begun bytes next h in
@@ -99,10 +95,9 @@ fault_from (suc k) bytes x s n items rest f h e = go (leads_to (turn bytes s)) (
         → ((next : Reading) (js : List Item) (more : List ℕ) → Follows bytes next n js more → length bytes < next.at + k → run k bytes next ≡ Err x → FirstNo bytes x)
         → FirstNo bytes x
     go (fails y t) later =
-        let l : ◌≡◌ {A = Result Parts Fault} (Err y) (Err x) = sym (run_fails k bytes s y t) ∙ e in
-        let m : y ≡ x = cc in
+        let m : y ≡ x = cc (run_fails k bytes s y t) in
         record { reading = s; before = inr (before_of bytes s n items rest f); first = t ∙ ap Err m }
-    go (ends q t) later = absurd (apart (sym (run_ends k bytes s q t) ∙ e))
+    go (ends q t) later = cc (run_ends k bytes s q t)
     go (goes next t) later =
         let a = another bytes s n items rest next f t in
         later next (items ++ (a.item ∷ [])) a.more a.follows (omega (arith, (advances bytes s next good t).0)) (sym (run_goes k bytes s next t) ∙ e)
@@ -113,8 +108,7 @@ fault_first_no (suc k) bytes x h e = go (leads_to (turn bytes start))
   where
     go : Leads (turn bytes start) → FirstNo bytes x
     go (fails y t) =
-        let l : ◌≡◌ {A = Result Parts Fault} (Err y) (Err x) = sym (run_fails k bytes start y t) ∙ e in
-        let m : y ≡ x = cc in
+        let m : y ≡ x = cc (run_fails k bytes start y t) in
         record { reading = start; before = inl refl; first = t ∙ ap Err m }
     go (ends q t) = absurd (not_begun_done bytes q t)
     go (goes next t) =

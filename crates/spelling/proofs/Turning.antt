@@ -1,5 +1,5 @@
 -- What a turn that goes on, or ends, has found: every question was answered yes.
-use Rattle.std.proofs.Common.{◌≡◌, ℕ, ◌+◌, ◌<◌, Bool, true, false, ltb, List, length, get_or, Some, None, Ok, Err, Option, Result, refl, arith}
+use Rattle.std.proofs.Common.{◌≡◌, ℕ, ◌+◌, ◌<◌, Bool, true, false, ltb, List, length, get_or, Some, None, Ok, Err, Option, Result, refl}
 use Rattle.std.proofs.lemmas.Bool.{ltb-true}
 use Rattle.spelling.specs.declared.command.Command.{Command}
 use Rattle.spelling.specs.declared.fault.Fault.{Fault}
@@ -9,12 +9,9 @@ use Rattle.spelling.specs.Reading.{Reading, Turn}
 use Rattle.spelling.specs.Commands.{command_of, operands_of, has_use}
 use Rattle.spelling.specs.Turns.{ask, in_sequence, after, given_command, command_at, turn}
 
-err_ok : {X : Type 0} {f : Fault} {x : X} → Err f ≡ Ok x → ⊥
-err_ok e = let z : ◌≡◌ {A = ℕ} 0 1 = cc in absurd (omega arith)
-
 pub ask_ok : {X : Type 0} (t : Bool) (why : Reason) (at : ℕ) (rest : Result X Fault) (x : X) → ask t why at rest ≡ Ok x → (t ≡ true) × (rest ≡ Ok x)
 ask_ok true why at rest x e = (refl, e)
-ask_ok false why at rest x e = absurd (err_ok e)
+ask_ok false why at rest x e = cc
 
 -- a known command and the questions before its operand
 pub record Asked (bytes : List ℕ) (s : Reading) (c : Command) (t : Turn) : Type 0 where
@@ -37,7 +34,7 @@ asked bytes s t e = go (command_of (get_or bytes s.at 0)) refl first.1
     go : (o : Option Command) → command_of (get_or bytes s.at 0) ≡ o
         → ◌≡◌ {A = Result Turn Fault} (elim (at_letter s o) [ Err f ↦ Err f | Ok c ↦ given_command bytes s c ]) (Ok t)
         → (c : Command) × Asked bytes s c t
-    go None is f = absurd (err_ok f)
+    go None is f = cc
     go (Some c) is f =
         let a = ask_ok (in_sequence s c) _ s.at _ t f in
         let b = ask_ok (has_use s.parts.width c) _ s.at _ t a.1 in
