@@ -13,12 +13,18 @@ use Rattle.spelling.specs.declared.parts.Flow.TheVariants.{Flex}
 use Rattle.spelling.specs.declared.parts.Parts.{Parts}
 use Rattle.spelling.specs.Commands.{index_of, place_of, part_operands}
 use Rattle.spelling.specs.Steps.{found}
-use Rattle.spelling.specs.Turns.{ask, operand, put_part, order_size, first_fault}
+use Rattle.spelling.specs.Turns.{ask, operand, put_part, first_fault}
 use Rattle.spelling.proofs.Operands.{none_at_fault, first_found}
 use Rattle.draft.specs.declared.found.Found.{Found}
 use Rattle.draft.specs.declared.place.Place.{Place}
 use Rattle.draft.specs.Founds.{list_of, reading_at}
-use Rattle.draft.specs.Places.{with_operand, list_or}
+use Rattle.draft.specs.Places.{with_operand, right_operand}
+
+abbrev why_of : Option ℕ → Option Reason
+why_of o = elim o [ None ↦ None | Some p ↦ Some (NoOrder p) ]
+
+abbrev list_or : ℕ → List ℕ → Option ℕ → Result (List ℕ) Fault
+list_or at list o = elim (why_of o) [ Some why ↦ Err (record { reason = why; offset = at }) | None ↦ Ok list ]
 
 pub sound_read : (n m at : ℕ) (there : Bool) (os list : List ℕ) → Ok list ≡ ask there NoByte at (Ok os) → m ≡ n → Sound m list
     → Ok list ≡ ask there NoByte at (list_or at os (first_fault n os (length os) 0))
@@ -35,9 +41,6 @@ fault_read n m at p false os list e same fault = cc
 abbrev all_of : ℕ → Flow → ℕ → ℕ → List (Option (List ℕ)) → Parts
 all_of w f c d orders = record { width = w; flow = f; c0 = c; c1 = d; orders = map list_of orders }
 
-abbrev why_of : Option ℕ → Option Reason
-why_of o = elim o [ None ↦ None | Some p ↦ Some (NoOrder p) ]
-
 abbrev parts_or : ℕ → Parts → Option Reason → Result Parts Fault
 parts_or at p o = elim o [ Some why ↦ Err (record { reason = why; offset = at }) | None ↦ Ok p ]
 
@@ -51,7 +54,7 @@ put w f c d orders k i at true os list None is e =
 
 -- the parts after a list was put to its order
 pub parts_put : (f : Found) (place : Place) (part : PartT) (k : OrderName) (i : ℕ) (list : List ℕ) → part ≡ Order k → i ≡ index_of k
-    → Ok list ≡ with_operand place 64 (λ os. list_or place.at os (first_fault (order_size f.width.bits (index_of k)) os (length os) 0))
+    → Ok list ≡ right_operand place f.width.bits (Order k)
     → Ok (all_of f.width.bits (unwrap_or f.flow Flex) (unwrap_or f.c0 0) (unwrap_or f.c1 0) (set f.orders i (Some list)))
     ≡ with_operand place (part_operands part) (λ _. found place.bytes.now (reading_at place.at f) part)
 parts_put f place part k i list is at e =

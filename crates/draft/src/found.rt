@@ -1,11 +1,11 @@
 // What was found of a draft so far.
-ghost use Rattle.std.specs.Prelude.{◌≡◌, ◌+◌, ◌^◌, ◌<◌, ◌≤◌, length, true, false, nat_lt, slice_index_or, slice_set, unwrap_or, ◌⊎◌, OnSome, IfSome, IfNone, OnOk, if◌then◌else◌, Ok as Yes, Some as Given, None as Missing};
+ghost use Rattle.std.specs.Prelude.{◌≡◌, ◌+◌, ◌<◌, ◌≤◌, length, true, false, nat_lt, slice_index_or, slice_set, unwrap_or, ◌⊎◌, OnSome, IfSome, IfNone, OnOk, if◌then◌else◌, Some as Given, None as Missing};
 ghost use Rattle.spelling.specs.Commands.{index_of, place_of, part_operands, has_use};
 ghost use Rattle.spelling.specs.Spelling.{after_width};
 ghost use Rattle.spelling.specs.Steps.{found};
-ghost use Rattle.spelling.specs.Turns.{ask, number, order_size, first_fault, complete};
+ghost use Rattle.spelling.specs.Turns.{order_size, complete};
 ghost use Rattle.spelling.specs.declared.command.Command.TheVariants.{Part as PartCommand};
-ghost use Rattle.spelling.specs.declared.fault.Reason.TheVariants.{TooLarge};
+ghost use Rattle.spelling.specs.declared.command.Part.TheVariants.{C0 as PartC0, Order as PartOrder};
 
 use crate::place::Place;
 use bits::order::Order;
@@ -27,7 +27,7 @@ pub(crate) struct Found {
 
 impl Found {
     ghost use Rattle.draft.specs.Founds.{given_of, parts_of, reading_at, then_parts};
-    ghost use Rattle.draft.specs.Places.{with_operand, list_or};
+    ghost use Rattle.draft.specs.Places.{with_operand, right_operand, as_number};
 
     // Nothing but the width, if it is 24 to 64.
     pub(crate) fn of_width(bits: u8) -> Option<Found>
@@ -84,7 +84,7 @@ impl Found {
 
     // C0, if it fits into the width.
     fn read_c0(&self, place: Place<'_>) -> Result<u64, Fault>
-        ensures { result ≡ with_operand place.entry 8 (λ os. ask (nat_lt (number os) (2 ^ self.now.width.bits)) TooLarge place.entry.at (Yes (number os))) }
+        ensures { result ≡ as_number (right_operand place.entry self.now.width.bits PartC0) }
     {
         let c0 = place.number()?;
         place.asked(c0 <= self.width.mask(), Reason::TooLarge)?;
@@ -93,7 +93,7 @@ impl Found {
 
     // The list of an order, if it is one.
     fn read_order(&self, name: OrderName, place: Place<'_>) -> Result<[u8; 64], Fault>
-        ensures { result ≡ with_operand place.entry 64 (λ os. list_or place.entry.at os (first_fault (order_size self.now.width.bits (index_of name)) os (length os) 0)) }
+        ensures { result ≡ right_operand place.entry self.now.width.bits (PartOrder name) }
     {
         let list = place.operand()?;
         match Order::new(self.size_of(name), list) {
@@ -118,8 +118,8 @@ impl Found {
         Ok(())
     }
 
-    // What is for widths above 32, and zero below.
-    fn or_unused<T: Drop>(&self, given: Option<T>, zero: T) -> Option<T>
+    // What widths above 32 need. It is zero elsewhere.
+    fn needed_if_wide<T: Drop>(&self, given: Option<T>, zero: T) -> Option<T>
         ensures { result ≡ if nat_lt 32 self.now.width.bits then given else Given (unwrap_or given zero) }
     {
         if self.is_wide() {
@@ -138,14 +138,14 @@ impl Found {
             width: self.width.bits() as u8,
             flow: self.flow?,
             c0: self.c0?,
-            c1: self.or_unused(self.c1, 0)?,
+            c1: self.needed_if_wide(self.c1, 0)?,
             orders: [
                 r0?,
                 r1?,
                 r2?,
                 r3?,
-                self.or_unused(r4, [0; 64])?,
-                self.or_unused(r5, [0; 64])?,
+                self.needed_if_wide(r4, [0; 64])?,
+                self.needed_if_wide(r5, [0; 64])?,
             ],
         })
     }

@@ -1,7 +1,6 @@
 // Places in the bytes of a draft.
-ghost use Rattle.std.specs.Prelude.{◌≡◌, ◌+◌, ◌==◌, ◌<◌, ◌≤◌, length, nat_lt, Ok as Yes};
-ghost use Rattle.spelling.specs.declared.fault.Reason.TheVariants.{NoByte};
-ghost use Rattle.spelling.specs.Turns.{ask, command_at, number};
+ghost use Rattle.std.specs.Prelude.{◌≡◌, ◌+◌, ◌==◌, ◌<◌, ◌≤◌, length, Ok as Yes};
+ghost use Rattle.spelling.specs.Turns.{ask, number};
 
 use spelling::command::Command;
 use spelling::fault::{Fault, Reason};
@@ -15,7 +14,7 @@ pub(crate) struct Place<'a> {
 }
 
 impl<'a> Place<'a> {
-    ghost use Rattle.draft.specs.Places.{with_operand};
+    ghost use Rattle.draft.specs.Places.{command_from, with_operand};
 
     pub(crate) fn first(bytes: &'a [u8]) -> Place<'a>
         ensures of { result.bytes ≡ bytes.entry }
@@ -65,7 +64,7 @@ impl<'a> Place<'a> {
 
     // The command that starts here.
     pub(crate) fn command(self) -> Result<Command, Fault>
-        ensures { result ≡ ask (nat_lt self.entry.at (length self.entry.bytes.now)) NoByte self.entry.at (command_at self.entry.bytes.now self.entry.at) }
+        ensures { result ≡ command_from self.entry }
     {
         self.asked(self.at < self.bytes.len(), Reason::NoByte)?;
         Command::try_from(self.bytes[self.at] as char).map_err(|reason| Fault {

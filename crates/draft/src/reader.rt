@@ -55,7 +55,7 @@ impl<'a> Reader<'a> {
         }
     }
 
-    // What Z does.
+    // Reads Z.
     fn end(&self) -> Result<Parts, Fault>
         requires there { self.now.place.at < length self.now.place.bytes.now }
         ensures { ended result ≡ given_command self.now.place.bytes.now (reading_of self.now) EndCommand }
