@@ -1,7 +1,7 @@
 -- What an answer of the reader tells: a draft that is spelt has sound parts, and a fault is the first no.
-use Rattle.std.proofs.Common.{◌≡◌, ℕ, zero, suc, ◌+◌, ◌^◌, ◌<◌, ◌≤◌, true, false, ◌⊎◌, List, [], ◌∷◌, length, get_or, Ok, Err, Result, sym, refl, ap, ◌∙◌, subst, inl, inr, arith}
+use Rattle.std.proofs.Common.{◌≡◌, ℕ, ◌+◌, ◌^◌, ◌<◌, ◌≤◌, true, false, ◌⊎◌, List, [], ◌∷◌, length, get_or, Ok, Err, Result, sym, refl, ap, ◌∙◌, subst, inl, inr, arith}
 use Rattle.std.specs.List.{AllByRecursion}
-use Rattle.std.proofs.lemmas.Bool.{cases_lt, cases_eq}
+use Rattle.std.proofs.lemmas.Bool.{cases_lt}
 use Rattle.bits.specs.Orders.{Sound}
 use Rattle.spelling.specs.declared.parts.Parts.{Parts}
 use Rattle.spelling.specs.declared.command.Part.{Part as PartT}
@@ -12,6 +12,7 @@ use Rattle.spelling.specs.Sound.{SoundParts}
 use Rattle.spelling.specs.declared.fault.Fault.{Fault}
 use Rattle.spelling.specs.Told.{Told}
 use Rattle.spelling.specs.Spelling.{Item, Right, Has, Holds, Fits, Given, Spells, read_parts}
+use Rattle.spelling.proofs.Items.{six_cases}
 use Rattle.spelling.proofs.Spelling.{accepted_spells, spells_accepted, fault_first_no}
 
 -- the item of a place
@@ -61,7 +62,8 @@ spells_sound bytes p s =
       most = s.most;
       small = constant n p (at 1 (omega arith) (λ e. cc));
       six = s.six;
-      long = λ j few. split j few (cases_lt j 4) (cases_lt 32 n);
+      long = six_cases (λ j. length (get_or p.orders j []) ≡ 64) (low 0 (omega arith) refl).long (low 1 (omega arith) refl).long
+          (low 2 (omega arith) refl).long (low 3 (omega arith) refl).long (four (cases_lt 32 n)) (five (cases_lt 32 n));
       r0 = (low 0 (omega arith) refl).sound;
       r1 = (low 1 (omega arith) refl).sound;
       r2 = (low 2 (omega arith) refl).sound;
@@ -82,25 +84,13 @@ spells_sound bytes p s =
     high : (j : ℕ) → j < 6 → 32 < n → Listed n p j
     high j small wide = listed n p j (at (3 + j) (omega arith) (λ e. wide))
 
-    -- by place, since `wide_place` computes at numerals only
-    lengths : (j : ℕ) → j < 4 → length (get_or p.orders j []) ≡ 64
-    lengths zero h = (low 0 (omega arith) refl).long
-    lengths (suc zero) h = (low 1 (omega arith) refl).long
-    lengths (suc (suc zero)) h = (low 2 (omega arith) refl).long
-    lengths (suc (suc (suc zero))) h = (low 3 (omega arith) refl).long
-    lengths (suc (suc (suc (suc j)))) h = absurd (omega arith)
+    four : (32 < n) ⊎ (n ≤ 32) → length (get_or p.orders 4 []) ≡ 64
+    four (inl wide) = (high 4 (omega arith) wide).long
+    four (inr narrow) = ap length (s.unused narrow).1
 
-    blank : (j : ℕ) → 4 ≤ j → j < 6 → n ≤ 32 → length (get_or p.orders j []) ≡ 64
-    blank j far few narrow = go (cases_eq j 4)
-      where
-        go : (j ≡ 4) ⊎ (j ≡ 4 → ⊥) → length (get_or p.orders j []) ≡ 64
-        go (inl e) = ap (λ z. length (get_or p.orders z [])) e ∙ ap length (s.unused narrow).1
-        go (inr ne) = let e : j ≡ 5 = omega arith in ap (λ z. length (get_or p.orders z [])) e ∙ ap length (s.unused narrow).2
-
-    split : (j : ℕ) → j < 6 → (j < 4) ⊎ (4 ≤ j) → (32 < n) ⊎ (n ≤ 32) → length (get_or p.orders j []) ≡ 64
-    split j few (inl a) b = lengths j a
-    split j few (inr a) (inl wide) = (high j few wide).long
-    split j few (inr a) (inr narrow) = blank j a few narrow
+    five : (32 < n) ⊎ (n ≤ 32) → length (get_or p.orders 5 []) ≡ 64
+    five (inl wide) = (high 5 (omega arith) wide).long
+    five (inr narrow) = ap length (s.unused narrow).2
 
 -- what an answer of the reader tells
 pub told : (bytes : List ℕ) (r : Result Parts Fault) → r ≡ read_parts bytes → Told bytes r

@@ -64,7 +64,7 @@ not_end bytes s next e =
     let i = (ended bytes s (More next) e).is in
     cc
 
-same_width : (p : PartT) (os : List ℕ) (a : Parts) → (put_part p os a).width ≡ a.width
+pub same_width : (p : PartT) (os : List ℕ) (a : Parts) → (put_part p os a).width ≡ a.width
 same_width (Flow f) os a = refl
 same_width C0 os a = refl
 same_width C1 os a = refl

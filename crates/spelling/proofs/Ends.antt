@@ -1,8 +1,8 @@
 -- The first command of a draft, which is W, and the last, which is Z.
-use Rattle.std.proofs.Common.{◌≡◌, ℕ, zero, suc, ◌+◌, ◌<◌, ◌≤◌, Bool, true, false, ◌&&◌, ◌||◌, eqb, leb, ◌⊎◌, List, [], ◌∷◌, ◌++◌, length, get_or, drop, Some, None, Ok, Option, Result, sym, refl, ap, ◌∙◌, subst, inl, inr, arith}
+use Rattle.std.proofs.Common.{◌≡◌, ℕ, zero, suc, ◌+◌, ◌<◌, ◌≤◌, Bool, true, false, ◌&&◌, eqb, leb, ◌⊎◌, List, [], ◌∷◌, ◌++◌, length, get_or, drop, Some, None, Ok, Option, Result, sym, refl, ap, ◌∙◌, subst, inl, inr, arith}
 use Rattle.std.specs.List.{AllByRecursion}
 use Rattle.std.proofs.lemmas.List.{drop_all}
-use Rattle.std.proofs.lemmas.Bool.{and_parts, and_from, or_cases, or_left, or_right, lt-ltb, leb-true, le-leb, eq-eqb, cases_lt}
+use Rattle.std.proofs.lemmas.Bool.{and_from, lt-ltb, le-leb, eq-eqb, cases_lt}
 use Rattle.spelling.specs.declared.parts.Parts.{Parts}
 use Rattle.spelling.specs.declared.command.Part.{Part as PartT}
 use Rattle.spelling.specs.declared.command.Command.{Command}
@@ -12,7 +12,7 @@ use Rattle.spelling.specs.declared.fault.Reason.{Reason}
 use Rattle.spelling.specs.declared.fault.Reason.TheVariants.{BadWidth, Missing, GoesOn}
 use Rattle.spelling.specs.Reading.{Reading, Turn, More, Done}
 use Rattle.spelling.specs.Commands.{command_of, part_operands, wide_place}
-use Rattle.spelling.specs.Turns.{ask, start, with_width, operand, part_fault, has, always, above, complete, after, turn}
+use Rattle.spelling.specs.Turns.{ask, start, with_width, operand, part_fault, always, complete, after, turn}
 use Rattle.spelling.specs.Spelling.{Item, written, Right, Given, Needed, Spells, after_width}
 use Rattle.spelling.proofs.Turning.{ask_ok, Asked, asked}
 use Rattle.spelling.proofs.Advancing.{widened, Ended, ended}
@@ -96,50 +96,21 @@ nine_cases P a b c d e f g i j (suc (suc (suc (suc (suc (suc (suc (suc (suc k)))
 needed_given : (n : ℕ) (given : List Bool) → complete n given ≡ true → (k : ℕ) → Needed n k → get_or given k false ≡ true
 needed_given n given e k needed =
     nine_cases (λ m. (wide_place m ≡ true → 32 < n) → get_or given m false ≡ true)
-    (λ w. c0.0) (λ w. c1.0) (λ w. (wide (w refl)).0) (λ w. c3.0) (λ w. c4.0) (λ w. c5.0) (λ w. c5.1)
-    (λ w. (wide (w refl)).1) (λ w. (wide (w refl)).2) k needed.0 needed.1
-  where
-    both : (always given ≡ true) × ((leb n 32 || above given) ≡ true)
-    both = and_parts (always given) (leb n 32 || above given) e
-
-    c0 : (has given 0 ≡ true) × ((has given 1 && (has given 3 && (has given 4 && (has given 5 && has given 6)))) ≡ true)
-    c0 = and_parts _ _ both.0
-
-    c1 : (has given 1 ≡ true) × ((has given 3 && (has given 4 && (has given 5 && has given 6))) ≡ true)
-    c1 = and_parts _ _ c0.1
-
-    c3 : (has given 3 ≡ true) × ((has given 4 && (has given 5 && has given 6)) ≡ true)
-    c3 = and_parts _ _ c1.1
-
-    c4 : (has given 4 ≡ true) × ((has given 5 && has given 6) ≡ true)
-    c4 = and_parts _ _ c3.1
-
-    c5 : (has given 5 ≡ true) × (has given 6 ≡ true)
-    c5 = and_parts _ _ c4.1
-
-    wide : 32 < n → (has given 2 ≡ true) × (has given 7 ≡ true) × (has given 8 ≡ true)
-    wide h = go (or_cases (leb n 32) (above given) both.1)
-      where
-        go : (leb n 32 ≡ true) ⊎ (above given ≡ true) → (has given 2 ≡ true) × (has given 7 ≡ true) × (has given 8 ≡ true)
-        go (inl l) = absurd (omega (arith, leb-true n 32 l))
-        go (inr a) =
-            let x = and_parts (has given 2) (has given 7 && has given 8) a in
-            let y = and_parts (has given 7) (has given 8) x.1 in
-            (x.0, y.0, y.1)
+    (λ w. grind arith) (λ w. grind arith) (λ w. let h = w refl in grind arith) (λ w. grind arith) (λ w. grind arith) (λ w. grind arith) (λ w. grind arith)
+    (λ w. let h = w refl in grind arith) (λ w. let h = w refl in grind arith) k needed.0 needed.1
 
 complete_from : (n : ℕ) (given : List Bool) → ((k : ℕ) → Needed n k → get_or given k false ≡ true) → complete n given ≡ true
-complete_from n given all =
-    and_from (always given) (leb n 32 || above given)
-    (and_from _ _ (low 0 (omega arith) refl) (and_from _ _ (low 1 (omega arith) refl) (and_from _ _ (low 3 (omega arith) refl)
-    (and_from _ _ (low 4 (omega arith) refl) (and_from _ _ (low 5 (omega arith) refl) (low 6 (omega arith) refl))))))
-    (go (cases_lt 32 n))
+complete_from n given all = go (cases_lt 32 n)
   where
     low : (k : ℕ) → k < 9 → wide_place k ≡ false → get_or given k false ≡ true
     low k h e = all k (h, λ f. cc)
 
-    go : (32 < n) ⊎ (n ≤ 32) → (leb n 32 || above given) ≡ true
-    go (inl w) = or_right (leb n 32) (above given) (and_from _ _ (all 2 (omega arith, λ f. w)) (and_from _ _ (all 7 (omega arith, λ f. w)) (all 8 (omega arith, λ f. w))))
-    go (inr h) = or_left (leb n 32) (above given) (le-leb n 32 h)
+    ever : always given ≡ true
+    ever = grind (arith, low 0 (omega arith) refl, low 1 (omega arith) refl, low 3 (omega arith) refl, low 4 (omega arith) refl, low 5 (omega arith) refl, low 6 (omega arith) refl)
+
+    go : (32 < n) ⊎ (n ≤ 32) → complete n given ≡ true
+    go (inl w) = grind (arith, ever, all 2 (omega arith, λ f. w), all 7 (omega arith, λ f. w), all 8 (omega arith, λ f. w))
+    go (inr h) = grind (arith, ever)
 
 -- What a width has no use for is zero.
 pub kept_unused : (n : ℕ) (items : List Item) (s : Reading) → AllByRecursion (Right n) items → Kept n items s → n ≤ 32 → Unused s.parts

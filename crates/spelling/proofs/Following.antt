@@ -17,54 +17,34 @@ use Rattle.spelling.specs.Turns.{operand, part_fault, put_part, turn}
 use Rattle.spelling.specs.Steps.{noted}
 use Rattle.spelling.specs.Spelling.{Item, letter_of, written, Right, New, Once, Given, Holds, Has, Before, after_width, after_items}
 use Rattle.spelling.proofs.Turning.{Asked, asked}
-use Rattle.spelling.proofs.Advancing.{Grown, grown, not_end}
+use Rattle.spelling.proofs.Advancing.{Grown, grown, not_end, same_width}
 use Rattle.spelling.proofs.Items.{letter_is, letter_means, index_small, place_small, fits_from_none, none_from_fits, new_from, not_given, given_push, given_left, given_last, once_push}
 
 -- What a part does to the parts before it.
 record Put (p : PartT) (os : List ℕ) (a : Parts) : Type 0 where
-  wide : (put_part p os a).width ≡ a.width
   six : length (put_part p os a).orders ≡ length a.orders
   keeps : (q : PartT) (l : List ℕ) → (place_of q ≡ place_of p → ⊥) → Holds a q l → Holds (put_part p os a) q l
   holds : length a.orders ≡ 6 → Holds (put_part p os a) p os
   c1s : (place_of p ≡ 2 → ⊥) → (put_part p os a).c1 ≡ a.c1
   lists : (j : ℕ) → (place_of p ≡ 3 + j → ⊥) → get_or (put_part p os a).orders j [] ≡ get_or a.orders j []
 
+keeps : (p q : PartT) (os l : List ℕ) (a : Parts) → (place_of q ≡ place_of p → ⊥) → Holds a q l → Holds (put_part p os a) q l
+keeps (Flow f) (Flow g) os l a e h = absurd (e refl)
+keeps C0 C0 os l a e h = absurd (e refl)
+keeps C1 C1 os l a e h = absurd (e refl)
+keeps (Order k) (Order m) os l a e h = get_or-set_other a.orders (index_of k) (index_of m) os [] (λ x. e (omega arith)) ∙ h
+keeps p q os l a e h = h
+
 put : (p : PartT) (os : List ℕ) (a : Parts) → Put p os a
-put (Flow f) os a = record { wide = refl; six = refl; keeps = keeps; holds = λ s. refl; c1s = λ e. refl; lists = λ j e. refl }
-  where
-    keeps : (q : PartT) (l : List ℕ) → (place_of q ≡ 0 → ⊥) → Holds a q l → Holds (put_part (Flow f) os a) q l
-    keeps (Flow g) l e h = absurd (e refl)
-    keeps C0 l e h = h
-    keeps C1 l e h = h
-    keeps (Order k) l e h = h
-put C0 os a = record { wide = refl; six = refl; keeps = keeps; holds = λ s. refl; c1s = λ e. refl; lists = λ j e. refl }
-  where
-    keeps : (q : PartT) (l : List ℕ) → (place_of q ≡ 1 → ⊥) → Holds a q l → Holds (put_part C0 os a) q l
-    keeps (Flow g) l e h = h
-    keeps C0 l e h = absurd (e refl)
-    keeps C1 l e h = h
-    keeps (Order k) l e h = h
-put C1 os a = record { wide = refl; six = refl; keeps = keeps; holds = λ s. refl; c1s = λ e. absurd (e refl); lists = λ j e. refl }
-  where
-    keeps : (q : PartT) (l : List ℕ) → (place_of q ≡ 2 → ⊥) → Holds a q l → Holds (put_part C1 os a) q l
-    keeps (Flow g) l e h = h
-    keeps C0 l e h = h
-    keeps C1 l e h = absurd (e refl)
-    keeps (Order k) l e h = h
 put (Order k) os a = record {
-  wide = refl;
   six = length-set a.orders (index_of k) os;
-  keeps = keeps;
+  keeps = λ q l. keeps (Order k) q os l a;
   holds = λ s. get_or-set_same a.orders (index_of k) os [] (omega (arith, index_small k));
   c1s = λ e. refl;
   lists = λ j e. get_or-set_other a.orders (index_of k) j os [] (λ x. e (omega arith));
 }
-  where
-    keeps : (q : PartT) (l : List ℕ) → (place_of q ≡ 3 + index_of k → ⊥) → Holds a q l → Holds (put_part (Order k) os a) q l
-    keeps (Flow g) l e h = h
-    keeps C0 l e h = h
-    keeps C1 l e h = h
-    keeps (Order m) l e h = get_or-set_other a.orders (index_of k) (index_of m) os [] (λ x. e (omega arith)) ∙ h
+put C1 os a = record { six = refl; keeps = λ q l. keeps C1 q os l a; holds = λ s. refl; c1s = λ e. absurd (e refl); lists = λ j e. refl }
+put p os a = record { six = refl; keeps = λ q l. keeps p q os l a; holds = λ s. refl; c1s = λ e. refl; lists = λ j e. refl }
 
 has_kept : (a : Parts) (p : PartT) (os : List ℕ) (is : List Item) → New p is → AllByRecursion (Has a) is → AllByRecursion (Has (put_part p os a)) is
 has_kept a p os [] new h = tt
@@ -118,7 +98,7 @@ kept_more : (n : ℕ) (is : List Item) (s : Reading) (i : Item) → Kept n is s 
     → Kept n (is ++ (i ∷ [])) (next_of s i)
 kept_more n is s i kept new long = record {
   place = rw (written_push is i, length-append (written is) (letter_of p ∷ os)) (omega arith);
-  wide = pt.wide ∙ kept.wide;
+  wide = same_width p os s.parts ∙ kept.wide;
   nine = length-set s.given (place_of p) true ∙ kept.nine;
   marks = λ k e. marks k e (cases_eq k (place_of p));
   marked = λ k g. marked k (given_push k is i g) (cases_eq k (place_of p));

@@ -1,8 +1,9 @@
 -- Items: their letters, what fits, which places they give, and what a draft has of them.
-use Rattle.std.proofs.Common.{◌≡◌, ℕ, zero, suc, ◌+◌, ◌^◌, ◌<◌, ◌≤◌, Bool, true, false, cond, eqb, ltb, ◌⊎◌, List, [], ◌∷◌, ◌++◌, length, get_or, replicate, Some, None, Option, sym, refl, ap, ◌∙◌, subst, inl, inr, arith}
+use Rattle.std.proofs.Common.{◌≡◌, ◌≢◌, ℕ, zero, suc, ◌+◌, ◌^◌, ◌<◌, ◌≤◌, Bool, true, false, cond, eqb, ltb, ◌⊎◌, List, [], ◌∷◌, ◌++◌, length, get_or, replicate, Some, None, Option, sym, refl, ap, ◌∙◌, subst, inl, inr, arith}
 use Rattle.std.specs.List.{AllByRecursion}
+use Rattle.std.proofs.ByRecursion.{All-push}
 use Rattle.std.proofs.lemmas.List.{ext_get_or}
-use Rattle.std.proofs.lemmas.Bool.{ltb-true, lt-ltb, eqb-true, true≢false, cases_eq, cases_lt}
+use Rattle.std.proofs.lemmas.Bool.{ltb-true, lt-ltb, eqb-true, cases_eq, cases_lt}
 use Rattle.bits.specs.Orders.{fault_at, Sound}
 use Rattle.spelling.specs.declared.parts.Flow.{Flow as FlowT}
 use Rattle.spelling.specs.declared.parts.Flow.TheVariants.{Flex, Cpa}
@@ -149,29 +150,21 @@ pub given_last : (is : List Item) (i : Item) → Given (place_of i.part) (is ++ 
 given_last [] i = inl refl
 given_last (j ∷ is) i = inr (given_last is i)
 
-new_push : (p : PartT) (is : List Item) (i : Item) → New p is → (place_of i.part ≡ place_of p → ⊥) → New p (is ++ (i ∷ []))
-new_push p [] i new nil = (nil, tt)
-new_push p (j ∷ is) i new nil = (new.0, new_push p is i new.1 nil)
-
 pub once_push : (is : List Item) (i : Item) → Once is → New i.part is → Once (is ++ (i ∷ []))
 once_push [] i once new = (tt, tt)
-once_push (j ∷ is) i once new = (new_push j.part is i once.0 (λ e. new.0 (sym e)), once_push is i once.1 new.1)
-
-new_at : (p : PartT) (is : List Item) (i : Item) (js : List Item) → New p (is ++ (i ∷ js)) → place_of i.part ≡ place_of p → ⊥
-new_at p [] i js new = new.0
-new_at p (j ∷ is) i js new = new_at p is i js new.1
-
-pub once_new : (is : List Item) (i : Item) (js : List Item) → Once (is ++ (i ∷ js)) → New i.part is
-once_new [] i js once = tt
-once_new (j ∷ is) i js once = ((λ e. new_at j.part is i js once.0 (sym e)), once_new is i js once.1)
+once_push (j ∷ is) i once new = (All-push (λ k. place_of k.part ≢ place_of j.part) is i once.0 (λ e. new.0 (sym e)), once_push is i once.1 new.1)
 
 pub all_at : {X : Type 0} (P : X → Type 0) (is : List X) (i : X) (js : List X) → AllByRecursion P (is ++ (i ∷ js)) → P i
 all_at P [] i js a = a.0
 all_at P (j ∷ is) i js a = all_at P is i js a.1
 
+pub once_new : (is : List Item) (i : Item) (js : List Item) → Once (is ++ (i ∷ js)) → New i.part is
+once_new [] i js once = tt
+once_new (j ∷ is) i js once = ((λ e. all_at (λ k. place_of k.part ≢ place_of j.part) is i js once.0 (sym e)), once_new is i js once.1)
+
 useful_wide : (n : ℕ) (w : Bool) → cond w (ltb 32 n) true ≡ true → w ≡ true → 32 < n
 useful_wide n true e h = ltb-true 32 n e
-useful_wide n false e h = absurd (true≢false (sym h))
+useful_wide n false e h = cc
 
 -- The places for widths above 32 are given only there.
 pub given_wide : (n : ℕ) (is : List Item) → AllByRecursion (Right n) is → (k : ℕ) → Given k is → wide_place k ≡ true → 32 < n
@@ -218,7 +211,7 @@ same_parts a b e f g h i =
 six_same : (xs ys : List (List ℕ)) → length xs ≡ 6 → length ys ≡ 6 → ((j : ℕ) → j < 6 → get_or xs j [] ≡ get_or ys j []) → xs ≡ ys
 six_same xs ys e f each = ext_get_or [] xs ys (e ∙ sym f) (λ j h. each j (omega arith))
 
-six_cases : (P : ℕ → Type 0) → P 0 → P 1 → P 2 → P 3 → P 4 → P 5 → (j : ℕ) → j < 6 → P j
+pub six_cases : (P : ℕ → Type 0) → P 0 → P 1 → P 2 → P 3 → P 4 → P 5 → (j : ℕ) → j < 6 → P j
 six_cases P a b c d e f zero h = a
 six_cases P a b c d e f (suc zero) h = b
 six_cases P a b c d e f (suc (suc zero)) h = c
