@@ -16,9 +16,9 @@ use Rattle.spelling.specs.Steps.{found}
 use Rattle.spelling.specs.Turns.{ask, operand, put_part, first_fault}
 use Rattle.spelling.proofs.Operands.{none_at_fault, first_found}
 use Rattle.draft.specs.declared.found.Found.{Found}
-use Rattle.draft.specs.declared.place.Place.{Place}
+use Rattle.draft.specs.declared.cursor.Cursor.{Cursor}
 use Rattle.draft.specs.Founds.{list_of, reading_at}
-use Rattle.draft.specs.Places.{with_operand, right_operand}
+use Rattle.draft.specs.Cursors.{with_operand, right_operand}
 
 abbrev why_of : Option ℕ → Option Reason
 why_of o = elim o [ None ↦ None | Some p ↦ Some (NoOrder p) ]
@@ -53,14 +53,14 @@ put w f c d orders k i at true os list None is e =
     let same : list ≡ os = cc in rw (← is, ← same, map-set list_of orders i (Some list)) refl
 
 -- the parts after a list was put to its order
-pub parts_put : (f : Found) (place : Place) (part : PartT) (k : OrderName) (i : ℕ) (list : List ℕ) → part ≡ Order k → i ≡ index_of k
-    → Ok list ≡ right_operand place f.width.bits (Order k)
+pub parts_put : (f : Found) (cursor : Cursor) (part : PartT) (k : OrderName) (i : ℕ) (list : List ℕ) → part ≡ Order k → i ≡ index_of k
+    → Ok list ≡ right_operand cursor f.width.bits (Order k)
     → Ok (all_of f.width.bits (unwrap_or f.flow Flex) (unwrap_or f.c0 0) (unwrap_or f.c1 0) (set f.orders i (Some list)))
-    ≡ with_operand place (part_operands part) (λ _. found place.bytes.now (reading_at place.at f) part)
-parts_put f place part k i list is at e =
+    ≡ with_operand cursor (part_operands part) (λ _. found cursor.bytes.now (reading_at cursor.at f) part)
+parts_put f cursor part k i list is at e =
     subst (λ p. Ok (all_of f.width.bits (unwrap_or f.flow Flex) (unwrap_or f.c0 0) (unwrap_or f.c1 0) (set f.orders i (Some list)))
-    ≡ with_operand place (part_operands p) (λ _. found place.bytes.now (reading_at place.at f) p))
-    (sym is) (put _ _ _ _ f.orders k i place.at _ (operand place.bytes.now place.at 64) list _ at e)
+    ≡ with_operand cursor (part_operands p) (λ _. found cursor.bytes.now (reading_at cursor.at f) p))
+    (sym is) (put _ _ _ _ f.orders k i cursor.at _ (operand cursor.bytes.now cursor.at 64) list _ at e)
 
 -- and what was given then
 pub given_put : (a b c : Bool) (orders : List (Option (List ℕ))) (k : OrderName) (i : ℕ) (list : List ℕ) → i ≡ index_of k

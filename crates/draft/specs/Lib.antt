@@ -1,4 +1,4 @@
-pub mod Places
+pub mod Cursors
 pub mod Founds
 pub mod Readers
 pub mod Reads

@@ -7,7 +7,7 @@ use Rattle.draft.specs.declared.reader.Reader.{Reader}
 use Rattle.draft.specs.Founds.{reading_at}
 
 abbrev pub reading_of : Reader → Reading
-reading_of r = reading_at r.place.at r.found
+reading_of r = reading_at r.cursor.at r.found
 
 -- The first command leads to a reader.
 abbrev pub begun : Result Reader Fault → Result Turn Fault

@@ -7,7 +7,7 @@ ghost use Rattle.spelling.specs.Turns.{order_size, complete};
 ghost use Rattle.spelling.specs.declared.command.Command.TheVariants.{Part as PartCommand};
 ghost use Rattle.spelling.specs.declared.command.Part.TheVariants.{C0 as PartC0, Order as PartOrder};
 
-use crate::place::Place;
+use crate::cursor::Cursor;
 use bits::order::Order;
 use bits::width::Width;
 use spelling::command::{OrderName, Part};
@@ -27,7 +27,7 @@ pub(crate) struct Found {
 
 impl Found {
     ghost use Rattle.draft.specs.Founds.{given_of, parts_of, reading_at, then_parts};
-    ghost use Rattle.draft.specs.Places.{with_operand, right_operand, as_number};
+    ghost use Rattle.draft.specs.Cursors.{with_operand, right_operand, as_number};
 
     // Nothing but the width, if it is 24 to 64.
     pub(crate) fn of_width(bits: u8) -> Option<Found>
@@ -83,37 +83,37 @@ impl Found {
     }
 
     // C0, if it fits into the width.
-    fn read_c0(&self, place: Place<'_>) -> Result<u64, Fault>
-        ensures { result ≡ as_number (right_operand place.entry self.now.width.bits PartC0) }
+    fn read_c0(&self, cursor: Cursor<'_>) -> Result<u64, Fault>
+        ensures { result ≡ as_number (right_operand cursor.entry self.now.width.bits PartC0) }
     {
-        let c0 = place.number()?;
-        place.asked(c0 <= self.width.mask(), Reason::TooLarge)?;
+        let c0 = cursor.number()?;
+        cursor.asked(c0 <= self.width.mask(), Reason::TooLarge)?;
         Ok(c0)
     }
 
     // The list of an order, if it is one.
-    fn read_order(&self, name: OrderName, place: Place<'_>) -> Result<[u8; 64], Fault>
-        ensures { result ≡ right_operand place.entry self.now.width.bits (PartOrder name) }
+    fn read_order(&self, name: OrderName, cursor: Cursor<'_>) -> Result<[u8; 64], Fault>
+        ensures { result ≡ right_operand cursor.entry self.now.width.bits (PartOrder name) }
     {
-        let list = place.operand()?;
+        let list = cursor.operand()?;
         match Order::new(self.size_of(name), list) {
             Ok(_) => Ok(list),
-            Err(fault) => Err(place.fault(Reason::NoOrder(fault.place))),
+            Err(fault) => Err(cursor.fault(Reason::NoOrder(fault.place))),
         }
     }
 
     // Puts a part that is new and of use, once its operand is there and right.
-    pub(crate) fn put(&mut self, part: Part, place: Place<'_>) -> Result<(), Fault>
-        requires there { place.at < length place.bytes.now }
-        ensures parts { then_parts result (parts_of self.new) ≡ with_operand place.entry (part_operands part) (λ _. found place.entry.bytes.now (reading_at place.entry.at self.old) part) }
+    pub(crate) fn put(&mut self, part: Part, cursor: Cursor<'_>) -> Result<(), Fault>
+        requires there { cursor.at < length cursor.bytes.now }
+        ensures parts { then_parts result (parts_of self.new) ≡ with_operand cursor.entry (part_operands part) (λ _. found cursor.entry.bytes.now (reading_at cursor.entry.at self.old) part) }
         ensures given { OnOk result (given_of self.new ≡ slice_set (given_of self.old) (place_of part) true) }
-        ensures there { OnOk result (place.entry.at + part_operands part < length place.entry.bytes.now) }
+        ensures there { OnOk result (cursor.entry.at + part_operands part < length cursor.entry.bytes.now) }
     {
         match part {
             Part::Flow(flow) => self.flow = Some(flow),
-            Part::C0 => self.c0 = Some(self.read_c0(place)?),
-            Part::C1 => self.c1 = Some(place.number()?),
-            Part::Order(name) => self.orders[name as usize] = Some(self.read_order(name, place)?),
+            Part::C0 => self.c0 = Some(self.read_c0(cursor)?),
+            Part::C1 => self.c1 = Some(cursor.number()?),
+            Part::Order(name) => self.orders[name as usize] = Some(self.read_order(name, cursor)?),
         }
         Ok(())
     }

@@ -3,18 +3,18 @@ ghost use Rattle.std.specs.Prelude.{◌≡◌, ◌<◌, length, IfOk};
 ghost use Rattle.spelling.specs.Turns.{start, turn, given_command};
 ghost use Rattle.spelling.specs.declared.command.Command.TheVariants.{End as EndCommand};
 
+use crate::cursor::Cursor;
 use crate::found::{Found, operand_length};
-use crate::place::Place;
 use spelling::command::Command;
 use spelling::fault::{Fault, Reason};
 use spelling::parts::Parts;
 
-// The place of the next command, and what was found before it.
+// Where the next command starts, and what was found before it.
 #[derive(Drop)]
 pub(crate) struct Reader<'a> {
-    place: Place<'a>,
+    cursor: Cursor<'a>,
     found: Found,
-    ghost begun: { 0 < place.at },
+    ghost begun: { 0 < cursor.at },
 }
 
 impl<'a> Reader<'a> {
@@ -23,32 +23,32 @@ impl<'a> Reader<'a> {
     // Reads the first command, which is W.
     pub(crate) fn begin(bytes: &'a [u8]) -> Result<Reader<'a>, Fault>
         ensures leads { begun result ≡ turn bytes.now start }
-        ensures of { IfOk result (λ r. r.place.bytes ≡ bytes.entry) }
+        ensures of { IfOk result (λ r. r.cursor.bytes ≡ bytes.entry) }
     {
-        let place = Place::first(bytes);
-        let command = place.command()?;
-        place.asked(matches!(command, Command::Width), Reason::OutOfSequence)?;
-        let [bits] = place.operand::<1>()?;
-        let found = Found::of_width(bits).ok_or(place.fault(Reason::BadWidth))?;
+        let cursor = Cursor::new(bytes);
+        let command = cursor.command()?;
+        cursor.asked(matches!(command, Command::Width), Reason::OutOfSequence)?;
+        let [bits] = cursor.operand::<1>()?;
+        let found = Found::of_width(bits).ok_or(cursor.fault(Reason::BadWidth))?;
         Ok(Reader {
-            place: place.after(1),
+            cursor: cursor.after(1),
             found,
         })
     }
 
     // Reads one more command: None where it does not end the draft.
     pub(crate) fn turn(&mut self) -> Result<Option<Parts>, Fault>
-        ensures leads { led result (reading_of self.new) ≡ turn self.old.place.bytes.now (reading_of self.old) }
-        ensures of { self.new.place.bytes ≡ self.old.place.bytes }
+        ensures leads { led result (reading_of self.new) ≡ turn self.old.cursor.bytes.now (reading_of self.old) }
+        ensures of { self.new.cursor.bytes ≡ self.old.cursor.bytes }
     {
-        let place = self.place;
-        match place.command()? {
-            Command::Width => Err(place.fault(Reason::OutOfSequence)),
+        let cursor = self.cursor;
+        match cursor.command()? {
+            Command::Width => Err(cursor.fault(Reason::OutOfSequence)),
             Command::Part(part) => {
-                place.asked(!self.found.has(part), Reason::OutOfSequence)?;
-                place.asked(self.found.has_use(part), Reason::NoUse)?;
-                self.found.put(part, place)?;
-                self.place = place.after(operand_length(part));
+                cursor.asked(!self.found.has(part), Reason::OutOfSequence)?;
+                cursor.asked(self.found.has_use(part), Reason::NoUse)?;
+                self.found.put(part, cursor)?;
+                self.cursor = cursor.after(operand_length(part));
                 Ok(None)
             }
             Command::End => Ok(Some(self.end()?)),
@@ -57,11 +57,14 @@ impl<'a> Reader<'a> {
 
     // Reads Z.
     fn end(&self) -> Result<Parts, Fault>
-        requires there { self.now.place.at < length self.now.place.bytes.now }
-        ensures { ended result ≡ given_command self.now.place.bytes.now (reading_of self.now) EndCommand }
+        requires there { self.now.cursor.at < length self.now.cursor.bytes.now }
+        ensures { ended result ≡ given_command self.now.cursor.bytes.now (reading_of self.now) EndCommand }
     {
-        let parts = self.found.parts().ok_or(self.place.fault(Reason::Missing))?;
-        let after = self.place.after(0);
+        let parts = self
+            .found
+            .parts()
+            .ok_or(self.cursor.fault(Reason::Missing))?;
+        let after = self.cursor.after(0);
         after.asked(after.is_end(), Reason::GoesOn)?;
         Ok(parts)
     }

@@ -4,7 +4,7 @@ use Rattle.draft.proofs.found.Found.put.Goals as goal
 
 pub returns-in_ok-read_order-in-Order-clause-parts : goal.returns-in_ok-read_order-in-Order-clause-parts
 returns-in_ok-read_order-in-Order-clause-parts c =
-    parts_put c.args.self.now c.args.place c.args.part c.in-Order.name _ _ c.in-Order.is (search rules) c.in_ok-read_order-in-Order.ensures
+    parts_put c.args.self.now c.args.cursor c.args.part c.in-Order.name _ _ c.in-Order.is (search rules) c.in_ok-read_order-in-Order.ensures
 
 pub returns-in_ok-read_order-in-Order-clause-given : goal.returns-in_ok-read_order-in-Order-clause-given
 returns-in_ok-read_order-in-Order-clause-given c =

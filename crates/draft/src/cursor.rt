@@ -1,35 +1,35 @@
-// Places in the bytes of a draft.
+// Going over the bytes of a draft.
 ghost use Rattle.std.specs.Prelude.{◌≡◌, ◌+◌, ◌==◌, ◌<◌, ◌≤◌, length, Ok as Yes};
 ghost use Rattle.spelling.specs.Turns.{ask, number};
 
 use spelling::command::Command;
 use spelling::fault::{Fault, Reason};
 
-// Where a command starts, or where the bytes end.
+// The bytes, and where in them a command starts, or they end.
 #[derive(Clone, Copy)]
-pub(crate) struct Place<'a> {
+pub(crate) struct Cursor<'a> {
     bytes: &'a [u8],
     at: usize,
     ghost within: { at ≤ length bytes.now },
 }
 
-impl<'a> Place<'a> {
-    ghost use Rattle.draft.specs.Places.{command_from, with_operand};
+impl<'a> Cursor<'a> {
+    ghost use Rattle.draft.specs.Cursors.{command_from, with_operand};
 
-    pub(crate) fn first(bytes: &'a [u8]) -> Place<'a>
+    pub(crate) fn new(bytes: &'a [u8]) -> Cursor<'a>
         ensures of { result.bytes ≡ bytes.entry }
         ensures at { result.at ≡ 0 }
     {
-        Place { bytes, at: 0 }
+        Cursor { bytes, at: 0 }
     }
 
-    // The place after a command whose operand has so many bytes.
-    pub(crate) fn after(self, operand: usize) -> Place<'a>
+    // After a command whose operand has so many bytes.
+    pub(crate) fn after(self, operand: usize) -> Cursor<'a>
         requires { self.at + operand < length self.bytes.now }
         ensures of { result.bytes ≡ self.entry.bytes }
         ensures at { result.at ≡ self.entry.at + 1 + operand }
     {
-        Place {
+        Cursor {
             bytes: self.bytes,
             at: self.at + 1 + operand,
         }
