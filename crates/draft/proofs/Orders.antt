@@ -1,5 +1,5 @@
 -- Lists of orders: what is read of them, and where they are put.
-use Rattle.std.proofs.Common.{◌≡◌, ℕ, suc, ◌+◌, Bool, true, false, List, ◌∷◌, map, set, length, Some, None, Ok, Err, Option, Result, is_some, unwrap_or, refl, sym, ap, subst, arith}
+use Rattle.std.proofs.Common.{◌≡◌, ℕ, Bool, true, false, List, map, set, length, Some, None, Ok, Err, Option, Result, unwrap_or, refl, sym, ap, subst}
 use Rattle.std.proofs.lemmas.List.{map-set}
 use Rattle.bits.specs.Orders.{Sound, FirstFault}
 use Rattle.spelling.specs.declared.command.OrderName.{OrderName}
@@ -11,7 +11,7 @@ use Rattle.spelling.specs.declared.fault.Reason.TheVariants.{NoByte, NoOrder}
 use Rattle.spelling.specs.declared.parts.Flow.{Flow}
 use Rattle.spelling.specs.declared.parts.Flow.TheVariants.{Flex}
 use Rattle.spelling.specs.declared.parts.Parts.{Parts}
-use Rattle.spelling.specs.Commands.{index_of, place_of, part_operands}
+use Rattle.spelling.specs.Commands.{index_of, part_operands}
 use Rattle.spelling.specs.Steps.{found}
 use Rattle.spelling.specs.Turns.{ask, operand, put_part, first_fault}
 use Rattle.spelling.proofs.Operands.{none_at_fault, first_found}
@@ -62,9 +62,4 @@ parts_put f cursor part k i list is at e =
     ≡ with_operand cursor (part_operands p) (λ _. found cursor.bytes.now (reading_at cursor.at f) p))
     (sym is) (put _ _ _ _ f.orders k i cursor.at _ (operand cursor.bytes.now cursor.at 64) list _ at e)
 
--- and what was given then
-pub given_put : (a b c : Bool) (orders : List (Option (List ℕ))) (k : OrderName) (i : ℕ) (list : List ℕ) → i ≡ index_of k
-    → a ∷ (b ∷ (c ∷ map is_some (set orders i (Some list)))) ≡ set (a ∷ (b ∷ (c ∷ map is_some orders))) (place_of (Order k)) true
-given_put a b c orders k i list is =
-    let e : 3 + i ≡ suc (suc (suc i)) = omega arith in
-    rw (← is, e, map-set is_some orders i (Some list)) refl
+pub ruleset put_steps = (parts_put, map-set)

@@ -103,6 +103,7 @@ impl Found {
     }
 
     // Puts a part that is new and of use, once its operand is there and right.
+    #[tactic(auto, using(crate::proofs::Orders::put_steps))]
     pub(crate) fn put(&mut self, part: Part, cursor: Cursor<'_>) -> Result<(), Fault>
         requires there { cursor.at < length cursor.bytes.now }
         ensures parts { then_parts result (parts_of self.new) ≡ with_operand cursor.entry (part_operands part) (λ _. found cursor.entry.bytes.now (reading_at cursor.entry.at self.old) part) }
