@@ -3,6 +3,7 @@ use crate::sample::{Sample, faulty, spelt};
 use draft::read::read;
 use spelling::fault::Reason;
 use spelling::parts::Flow;
+use std::alloc::{AllocError, Global};
 use std::process::Abort;
 use std::test::Fail;
 
@@ -45,13 +46,8 @@ fn parts_are_found(rt: HostRuntime) -> Result<(), Fail> {
 }
 
 // The last command that starts in the first `len` bytes or right after them.
-fn start_before(
-    rt: &(impl Abort + AllocGlobal),
-    width: u8,
-    letters: &str,
-    len: usize,
-) -> Result<usize, Fail> {
-    let mut sample = Sample::new(rt.alloc());
+fn start_before(alloc: Global, width: u8, letters: &str, len: usize) -> Result<usize, AllocError> {
+    let mut sample = Sample::new(alloc);
     let mut start = 0;
     for letter in letters.chars() {
         if sample.len() <= len {
@@ -66,7 +62,7 @@ fn start_before(
 fn cut_everywhere(rt: &(impl Abort + AllocGlobal), width: u8, letters: &str) -> Result<(), Fail> {
     let sample = spelt(rt.alloc(), width, letters)?;
     for len in 0..sample.len() {
-        let start = start_before(rt, width, letters, len)?;
+        let start = start_before(rt.alloc(), width, letters, len)?;
         faulty(rt, sample.first(len), Reason::NoByte, start);
     }
     read(sample.all())?;
@@ -80,8 +76,8 @@ fn cut_at_every_length(rt: HostRuntime) -> Result<(), Fail> {
 }
 
 // A whole draft with one byte changed.
-fn changed(rt: &(impl Abort + AllocGlobal), at: usize, byte: u8) -> Result<Sample, Fail> {
-    let mut sample = spelt(rt.alloc(), 24, "WFA0123Z")?;
+fn changed(alloc: Global, at: usize, byte: u8) -> Result<Sample, AllocError> {
+    let mut sample = spelt(alloc, 24, "WFA0123Z")?;
     sample.set(at, byte);
     Ok(sample)
 }
@@ -90,7 +86,7 @@ fn changed(rt: &(impl Abort + AllocGlobal), at: usize, byte: u8) -> Result<Sampl
 #[test]
 fn one_byte_changed(rt: HostRuntime) -> Result<(), Fail> {
     for byte in 0..=255 {
-        let first = changed(&rt, 0, byte)?;
+        let first = changed(rt.alloc(), 0, byte)?;
         match byte as char {
             'W' => {
                 read(first.all())?;
@@ -103,7 +99,7 @@ fn one_byte_changed(rt: HostRuntime) -> Result<(), Fail> {
             ),
             _ => faulty(&rt, first.all(), Reason::NoCommand, 0),
         }
-        let second = changed(&rt, 1, byte)?;
+        let second = changed(rt.alloc(), 1, byte)?;
         match byte {
             24 => {
                 read(second.all())?;
@@ -112,7 +108,7 @@ fn one_byte_changed(rt: HostRuntime) -> Result<(), Fail> {
             25..=64 => faulty(&rt, second.all(), Reason::NoOrder(24), 12),
             _ => faulty(&rt, second.all(), Reason::BadWidth, 0),
         }
-        let third = changed(&rt, 2, byte)?;
+        let third = changed(rt.alloc(), 2, byte)?;
         match byte as char {
             'F' | 'P' => {
                 read(third.all())?;
