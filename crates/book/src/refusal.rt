@@ -7,6 +7,7 @@ use codings::refusal::AboveTop;
 use std::error::Error;
 use std::fmt;
 
+// The numbers and words of all of them stand in one table each, the coding's own refusal among them.
 #[derive(Clone, Copy, PartialEq, Eq, Debug)]
 pub enum Refusal {
     // 13: a number is above its coding's top.

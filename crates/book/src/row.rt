@@ -1,6 +1,7 @@
 // Row records, of which row memory is made.
 
-// One record of row memory: eight numbers, and the mark of a standing row.
+// One record of row memory: eight numbers, and the mark of a standing row. The mark is no Option round the numbers: a record
+// has a fixed form, and one that does not stand has to be all zero.
 #[derive(Clone, Copy, PartialEq, Eq, Debug)]
 pub struct Row {
     pub numbers: [u64; 8],

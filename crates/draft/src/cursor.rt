@@ -67,6 +67,7 @@ impl<'a> Cursor<'a> {
         ensures { result ≡ command_from self.entry }
     {
         self.asked(self.at < self.bytes.len(), Reason::NoByte)?;
+        // Written out, since what `fault` ensures does not reach through the closure.
         Command::try_from(self.bytes[self.at] as char).map_err(|reason| Fault {
             reason,
             offset: self.at,

@@ -96,6 +96,7 @@ impl Found {
         ensures { result ≡ right_operand cursor.entry self.now.width.bits (PartOrder name) }
     {
         let list = cursor.operand()?;
+        // A match, since a closure under `map_err` would ask for its own clause on the fault.
         match Order::new(self.size_of(name), list) {
             Ok(_) => Ok(list),
             Err(fault) => Err(cursor.fault(Reason::NoOrder(fault.place))),
@@ -119,7 +120,7 @@ impl Found {
         Ok(())
     }
 
-    // What widths above 32 need. It is zero elsewhere.
+    // What was given of a part that widths above 32 need; up to 32 bits nothing is, and the part is zero.
     fn needed_if_wide<T: Drop>(&self, given: Option<T>, zero: T) -> Option<T>
         ensures { result ≡ if nat_lt 32 self.now.width.bits then given else Given (unwrap_or given zero) }
     {

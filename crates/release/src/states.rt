@@ -8,8 +8,8 @@ pub struct Release<S> {
     pub(crate) state: S,
 }
 
-// Rows can be put and withdrawn, shown and turned back, until the release is sealed or scrapped. It has no `Drop`: an
-// open release cannot be let go.
+// Rows can be put and withdrawn, shown and turned back, until the release is sealed or scrapped. This state has no `Drop`, so
+// an open release cannot be let go.
 pub struct Open;
 
 // Rows can be shown and counted, and nothing else.

@@ -1,7 +1,7 @@
 // The mill's colours: the pile that codes them, and what is printed of it.
+use crate::refusals::tell_refused;
 use codings::coding::Coding;
 use codings::plus::Plus;
-use codings::refusal::AboveTop;
 use laws::laws_at;
 use laws::sides::Sides;
 use piles::pile::Pile;
@@ -41,20 +41,21 @@ fn tell_code(rt: &impl Print, coding: &Pile<Plus>, colour: u64) -> io::Result<()
             println!(rt; "colour {colour} has code {code}")?;
             tell_back(rt, coding, code)
         }
-        Err(refusal) => tell_refusal(rt, "colour", colour, refusal),
+        Err(refusal) => {
+            print!(rt; "colour {colour}: ")?;
+            tell_refused(rt, refusal.into())
+        }
     }
 }
 
 fn tell_back(rt: &impl Print, coding: &Pile<Plus>, code: u64) -> io::Result<()> {
     match coding.back(code) {
         Ok(colour) => println!(rt; "  code {code} is colour {colour}"),
-        Err(refusal) => tell_refusal(rt, "code", code, refusal),
+        Err(refusal) => {
+            print!(rt; "code {code}: ")?;
+            tell_refused(rt, refusal.into())
+        }
     }
-}
-
-fn tell_refusal(rt: &impl Print, what: &str, number: u64, refusal: AboveTop) -> io::Result<()> {
-    let refused = refusal.number();
-    println!(rt; "{what} {number}: refused {refused}: {refusal}")
 }
 
 // Both sides of the five laws at a colour, over the coding, its first part and a coding of few numbers.

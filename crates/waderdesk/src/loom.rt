@@ -1,5 +1,6 @@
 // A small release of loom records: a yarn colour, a weaver and a loom for each row, coded by two piles. Every way
 // out seals the release or scraps it.
+use crate::refusals::tell_refused;
 use book::call::{Answer, Call};
 use book::entry::Entry;
 use book::refusal::Refusal;
@@ -60,25 +61,28 @@ fn tell_answers(
 ) -> io::Result<()> {
     println!(rt; "a release of yarn, hands and a clear column over 4 row records:")?;
     for (call, answer) in calls.iter().zip(answers) {
+        print!(rt; "  {call}: ")?;
         match answer {
-            Ok(answer) => println!(rt; "  {call}: {answer}")?,
-            Err(refusal) => println!(rt; "  {call}: refused {}: {refusal}", refusal.number())?,
+            Ok(answer) => println!(rt; "{answer}")?,
+            Err(refusal) => tell_refused(rt, *refusal)?,
         }
     }
     Ok(())
 }
 
-fn tell_refusal(rt: &impl Print, what: &str, refusal: Refusal) -> io::Result<()> {
-    println!(rt; "{what}: refused {}: {refusal}", refusal.number())
-}
-
 fn tell_sealed(rt: &impl Print, sealed: &Release<Sealed>, memory: &[Row]) -> io::Result<()> {
     match sealed.show(memory, Entry { row: 1, column: 1 }) {
         Ok(code) => println!(rt; "sealed: row 1 column 1 shows code {code}")?,
-        Err(refusal) => tell_refusal(rt, "sealed: row 1 column 1", refusal)?,
+        Err(refusal) => {
+            print!(rt; "sealed: row 1 column 1: ")?;
+            tell_refused(rt, refusal)?;
+        }
     }
     match sealed.tally(memory) {
         Ok(tally) => println!(rt; "sealed: {tally}"),
-        Err(refusal) => tell_refusal(rt, "sealed: tally", refusal),
+        Err(refusal) => {
+            print!(rt; "sealed: tally: ")?;
+            tell_refused(rt, refusal)
+        }
     }
 }

@@ -6,6 +6,7 @@
 mod colours;
 mod drafts;
 mod loom;
+mod refusals;
 
 use anyhow::anyhow;
 use colours::{colour_coding, hands_coding, tell_all};
