@@ -1,11 +1,7 @@
 use Rattle.meanings.proofs.Walking.{left}
 use Rattle.piles.specs.Trees.{facing, tree_meaning}
 use Rattle.piles.proofs.Ways.{GoesOn}
-use Rattle.piles.proofs.tree.Tree.TheLaws.{the_size}
 use Rattle.piles.proofs.tree.Tree.+sent.Given as goal
-
-abbrev pub decreases-sent : goal.decreases-sent
-decreases-sent g l = the_size g.row.C g.C.laws l.self.now
 
 abbrev pub invariant-loop-y : goal.invariant-loop-y
 invariant-loop-y g l =
