@@ -5,7 +5,8 @@ ghost use Rattle.bits.specs.Orders.{IsOrder, Applied, Undone, FirstFault, Sound,
 
 use crate::width::Width;
 
-// Bit i of a number moves to bit places[i]. The places after the size do not count and are 0.
+// Bit i of a number moves to bit places[i]. The places after the size do not count and are 0. The list is an array, since the
+// reading of a draft takes no heap.
 #[derive(Clone, Copy)]
 pub struct Order {
     size: Width,
@@ -88,7 +89,7 @@ fn moved_bit(x: u64, from: usize, to: usize) -> u64
     ((x >> from) & 1) << to
 }
 
-// The first place at fault.
+// The first place at fault. It goes by number, since each place is held to all earlier ones.
 fn first_fault(size: Width, places: &[u8; 64]) -> Option<usize>
     ensures { MatchOption result (Sound size.bits places.now) (λ p. FirstFault size.bits places.now p) }
 {

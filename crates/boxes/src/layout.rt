@@ -61,7 +61,8 @@ const SHAPES: [Shape; 41] = [
     shape!(8, 8, 8),
 ];
 
-// The boxes of a width from 24 to 64, and none for others.
+// The boxes of a width from 24 to 64, and none for others. That a width is none of these stands in the contract of each test for
+// it: no type can carry it there.
 pub fn boxes_of(width: u32) -> Option<Shape>
     ensures { MatchOption result ((width < 24) ⊎ (64 < width)) (λ s. (24 ≤ width) × (width ≤ 64) × (s ≡ layout width) × Cut width s × Rows width (widths s)) }
 {

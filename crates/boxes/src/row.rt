@@ -40,7 +40,8 @@ impl Boxes {
         })
     }
 
-    // Box i, the lowest first. A row holds two cells and no list, and a chain of a cell and so many copies is no plainer.
+    // Box i, the lowest first. A row holds two cells and no list: a chain of one cell and copies of the other was tried, and the
+    // proof did not close.
     #[tactic(auto, using(crate::proofs::Rows::wide_at))]
     fn cell(&self, i: u32) -> Cell
         requires { i < self.now.count }

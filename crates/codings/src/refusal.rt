@@ -5,7 +5,8 @@ ghost use Rattle.codings.specs.Refusal.{number_of, words_of};
 use std::error::Error;
 use std::fmt;
 
-// The number that a coding was asked about is above its top.
+// The number that a coding was asked about is above its top. Each coding asks so in a line of its own: a function for it would
+// take the top and the number, and say no more.
 #[derive(Clone, Copy, PartialEq, Eq, Debug)]
 pub struct AboveTop;
 

@@ -77,7 +77,8 @@ impl Sample {
     }
 }
 
-// The commands of these letters.
+// The commands of these letters. The width and the letters go together through the trials as two words of their tables; a
+// struct of both would be written out in each row.
 pub(crate) fn spelt(alloc: Global, width: u8, letters: &str) -> Result<Sample, AllocError> {
     let mut sample = Sample::new(alloc);
     for letter in letters.chars() {

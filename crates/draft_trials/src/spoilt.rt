@@ -193,20 +193,20 @@ fn the_earlier_question_decides(rt: HostRuntime) -> Result<(), Fail> {
 
 #[test]
 fn numbers_and_layers(rt: HostRuntime) {
-    for (reason, number, layer) in [
-        (Reason::NoByte, 1, Layer::Bytes),
-        (Reason::NoCommand, 2, Layer::Commands),
-        (Reason::OutOfSequence, 3, Layer::Commands),
-        (Reason::NoUse, 4, Layer::Commands),
-        (Reason::BadWidth, 5, Layer::Commands),
-        (Reason::TooLarge, 6, Layer::Commands),
-        (Reason::NoOrder(7), 7, Layer::Orders),
-        (Reason::Missing, 8, Layer::Commands),
-        (Reason::GoesOn, 9, Layer::Bytes),
+    for (reason, number, layer, place) in [
+        (Reason::NoByte, 1, Layer::Bytes, None),
+        (Reason::NoCommand, 2, Layer::Commands, None),
+        (Reason::OutOfSequence, 3, Layer::Commands, None),
+        (Reason::NoUse, 4, Layer::Commands, None),
+        (Reason::BadWidth, 5, Layer::Commands, None),
+        (Reason::TooLarge, 6, Layer::Commands, None),
+        (Reason::NoOrder(7), 7, Layer::Orders, Some(7)),
+        (Reason::Missing, 8, Layer::Commands, None),
+        (Reason::GoesOn, 9, Layer::Bytes, None),
     ] {
         assert_eq!(rt; reason.number(), number);
         assert_eq!(rt; reason.layer(), layer);
-        assert_eq!(rt; reason.place(), if number == 7 { Some(7) } else { None });
+        assert_eq!(rt; reason.place(), place);
     }
 }
 

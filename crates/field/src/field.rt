@@ -15,15 +15,12 @@ struct Terms {
 }
 
 impl Terms {
-    // 1 + x^first, since the other two are equal and cancel.
+    // 1 + x^first: the other two are equal and cancel. So one sum of four terms does for all low parts, and no product asks how
+    // many there are.
     fn two(first: u32) -> Terms
         ensures { result ≡ record { first = first; second = 0; third = 0 } }
     {
-        Terms {
-            first,
-            second: 0,
-            third: 0,
-        }
+        Terms::four(first, 0, 0)
     }
 
     fn four(first: u32, second: u32, third: u32) -> Terms
@@ -81,7 +78,7 @@ impl Field {
     // The steps below take values of at most so many bits, and each says so: a type of values would carry its field, and
     // each call would ask in its place that two fields are the same.
 
-    // The lowest bits of v, as many as the width has.
+    // The lowest bits of v, as many as the width has: bits' `Width::cut`, but this crate rests on no other.
     #[tactic(auto, using(std::proofs::lemmas::Nat::and_mask, std::proofs::lemmas::Nat::one_shl))]
     fn own_bits(self, v: u64) -> u64
         ensures { result ≡ v % 2 ^ self.width }
@@ -123,7 +120,7 @@ impl Field {
         ensures reduces { reduced self.width self.low result ≡ mul self.width self.low a b }
         ensures leaves { Leaves self.width self.low (product self.width a b) (reduced self.width self.low result) }
     {
-        // A loop over the bits of b: a fold over the same range is no plainer.
+        // A loop over the bits of b: a `fold` was tried, and what it asks of its closure did not close.
         let mut sum = 0;
         for i in 0..self.width {
             sum ^= ((b >> i) & 1) * (a << i);

@@ -1,4 +1,5 @@
 // The boxes of every width, found again by the search as it is worded, and rows of boxes there and back.
+use crate::expected::there;
 use bits::width::Width;
 use boxes::cell::Cell;
 use boxes::kind::{BoxKind, Cpa, Flex, Turned};
@@ -85,13 +86,9 @@ fn boxes_by_the_search(rt: HostRuntime) {
     );
 }
 
-fn row_of(n: u32) -> Result<Boxes, Fail> {
-    Boxes::of_width(n).ok_or_else(|| Fail::new(n))
-}
-
 #[test]
 fn cpa_boxes_of_five_bits(rt: HostRuntime) -> Result<(), Fail> {
-    let cell = Cell::of_width(5).ok_or_else(|| Fail::new("no such box"))?;
+    let cell = there(Cell::of_width(5), 5)?;
     let first = Cpa { r0: 0, r1: 15 };
     let second = Cpa { r0: 0, r1: 24 };
     assert_eq!(rt; first.send(cell, 0, 2), 4);
@@ -105,8 +102,8 @@ fn rows_there_and_back(rt: HostRuntime) -> Result<(), Fail> {
     let r0 = 0x0123_4567_89ab_cdef;
     let r1 = 0xfedc_ba98_7654_3210;
     for n in 24..65 {
-        let boxes = row_of(n)?;
-        let width = Width::new(n).ok_or_else(|| Fail::new("no such width"))?;
+        let boxes = there(Boxes::of_width(n), n)?;
+        let width = there(Width::new(n), n)?;
         for x in [0, 1, 0x00ff_00ff_00ff_00ff, 0xdead_beef_0bad_cafe, u64::MAX] {
             let x = width.cut(x);
             assert_eq!(rt; boxes.send(&Flex, boxes.send(&Flex, x)), x);
@@ -121,9 +118,9 @@ fn rows_there_and_back(rt: HostRuntime) -> Result<(), Fail> {
 // The lowest box of width 26 has ten bits: bit 9 is its own, bit 10 that of the next box.
 #[test]
 fn the_last_width_is_lowest(rt: HostRuntime) -> Result<(), Fail> {
-    let boxes = row_of(26)?;
+    let boxes = there(Boxes::of_width(26), 26)?;
     assert_eq!(rt; boxes.send(&Flex, 1 << 10), 1 << 10);
-    let ten = Cell::of_width(10).ok_or_else(|| Fail::new("no such box"))?;
+    let ten = there(Cell::of_width(10), 10)?;
     assert_eq!(rt; boxes.send(&Flex, 1 << 9), ten.invert(1 << 9));
     Ok(())
 }

@@ -1,4 +1,5 @@
 // Every value of the widths 5 to 10 against the field's rule worked out another way, and the widths that have a field.
+use crate::expected::there;
 use field::field::Field;
 use field::known_inverses;
 use std::process::Abort;
@@ -62,12 +63,8 @@ fn slow_product(shape: &Shape, a: u64, b: u64) -> u64 {
     sum
 }
 
-fn field_of(width: u32) -> Result<Field, Fail> {
-    Field::of_width(width).ok_or_else(|| Fail::new(width))
-}
-
 fn walks_right(rt: &impl Abort, shape: &Shape) -> Result<(), Fail> {
-    let field = field_of(shape.width)?;
+    let field = there(Field::of_width(shape.width), shape.width)?;
     assert_eq!(rt; field.width(), shape.width);
     assert_eq!(rt; field.low(), shape.low);
     assert_eq!(rt; field.inverse(0), 0);
@@ -94,7 +91,7 @@ fn each_value_has_its_inverse(rt: HostRuntime) -> Result<(), Fail> {
 #[test]
 fn known_inverses_come_out(rt: HostRuntime) -> Result<(), Fail> {
     for known in &known_inverses() {
-        let field = field_of(known.width)?;
+        let field = there(Field::of_width(known.width), known.width)?;
         assert_eq!(rt; field.inverse(known.of), known.inverse);
         assert_eq!(rt; field.inverse(known.inverse), known.of);
     }
@@ -104,7 +101,7 @@ fn known_inverses_come_out(rt: HostRuntime) -> Result<(), Fail> {
 // Bits above the width are not read.
 #[test]
 fn higher_bits_do_not_count(rt: HostRuntime) -> Result<(), Fail> {
-    let field = field_of(5)?;
+    let field = there(Field::of_width(5), 5)?;
     assert_eq!(rt; field.inverse(32 + 2), 18);
     assert_eq!(rt; field.multiply(u64::MAX, 64 + 1), 31);
     Ok(())

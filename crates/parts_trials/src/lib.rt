@@ -4,6 +4,8 @@
 #[cfg(test)]
 mod cuts;
 #[cfg(test)]
+mod expected;
+#[cfg(test)]
 mod fields;
 #[cfg(test)]
 mod orders;

@@ -1,10 +1,12 @@
 // Orders of bits, and the lists that are none.
+use crate::expected::there;
 use bits::order::{NotAnOrder, Order};
 use bits::width::Width;
 use std::process::Abort;
 use std::test::Fail;
 
-// Each of the first `size` bits to itself, and zeros after them, as the trials of drafts have it: the two share no crate.
+// Each of the first `size` bits to itself, and zeros after them. The trials of drafts push such a list byte by byte: a crate
+// of helpers for both would be longer than the function.
 fn plain(size: usize) -> [u8; 64] {
     let mut places = [0; 64];
     for (place, bit) in places.iter_mut().zip(0u8..64).take(size) {
@@ -13,19 +15,15 @@ fn plain(size: usize) -> [u8; 64] {
     places
 }
 
-fn width_of(bits: u32) -> Result<Width, Fail> {
-    Width::new(bits).ok_or_else(|| Fail::new("no such width"))
-}
-
 // The list is refused at this place.
 fn faulty(rt: &impl Abort, bits: u32, places: [u8; 64], place: usize) -> Result<(), Fail> {
-    let order = Order::new(width_of(bits)?, places);
+    let order = Order::new(there(Width::new(bits), bits)?, places);
     assert_eq!(rt; order.err(), Some(NotAnOrder { place }));
     Ok(())
 }
 
 fn order_of(bits: u32, places: [u8; 64]) -> Result<Order, Fail> {
-    Order::new(width_of(bits)?, places).map_err(|fault| Fail::new(fault.place))
+    Order::new(there(Width::new(bits), bits)?, places).map_err(|fault| Fail::new(fault.place))
 }
 
 #[test]
@@ -87,7 +85,7 @@ fn faults_at_their_first_place(rt: HostRuntime) -> Result<(), Fail> {
 #[test]
 fn sums_wrap_at_the_width(rt: HostRuntime) -> Result<(), Fail> {
     for (bits, last) in [(1, 1), (24, 0xff_ffff), (33, 0x1_ffff_ffff), (64, u64::MAX)] {
-        let width = width_of(bits)?;
+        let width = there(Width::new(bits), bits)?;
         assert_eq!(rt; width.mask(), last);
         assert_eq!(rt; width.add(last, 1), 0);
         assert_eq!(rt; width.add(last, last), last - 1);
@@ -101,12 +99,12 @@ fn sums_wrap_at_the_width(rt: HostRuntime) -> Result<(), Fail> {
 
 #[test]
 fn bits_come_round(rt: HostRuntime) -> Result<(), Fail> {
-    let five = width_of(5)?;
+    let five = there(Width::new(5), 5)?;
     assert_eq!(rt; five.rotate_left(0b10010, 2), 0b01010);
     assert_eq!(rt; five.rotate_right(0b01010, 2), 0b10010);
     assert_eq!(rt; five.rotate_left(0b10010, 5), 0b10010);
     assert_eq!(rt; five.rotate_left(0b10010, 7), 0b01010);
-    let whole = width_of(64)?;
+    let whole = there(Width::new(64), 64)?;
     assert_eq!(rt; whole.rotate_left(1 << 63, 1), 1);
     assert_eq!(rt; whole.rotate_right(1, 1), 1 << 63);
     assert_eq!(rt; whole.rotate_right(1, 64), 1);

@@ -10,7 +10,8 @@ use book::role::Role;
 use codings::coding::Coding;
 use codings::turned::Turned;
 
-// The yarn coding and the hands coding. Whoever keeps them elsewhere can lend them: a coding that is lent is a coding.
+// The yarn coding and the hands coding. Whoever keeps them elsewhere can lend them: a coding that is lent is a coding. Clauses
+// take what both mean by `meanings_of`: a model's Value holds no functions, and a meaning does.
 #[derive(Drop)]
 pub struct ColumnCodings<Y, H> {
     pub yarn: Y,

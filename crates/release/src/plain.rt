@@ -1,4 +1,5 @@
-// A release by its plain numbers, which do not tell its state.
+// A release by its plain numbers, which do not tell its state. Row memory is not among them: the caller lends it with each call,
+// which asks for its length.
 use crate::columns::Columns;
 
 #[derive(Clone, Copy)]

@@ -22,8 +22,9 @@ impl fmt::Display for Flow {
     }
 }
 
-// The width of the numbers, the flow, the constants C0 and C1, and the lists of the orders 0 to 5. What a width has no
-// use for is zero, as the promise on an accepted draft says it: up to 32 bits C1 and the orders 4 and 5.
+// The width of the numbers, the flow, the constants C0 and C1, and the lists of the orders 0 to 5, which are arrays, since the
+// reading of a draft takes no heap. What a width has no use for is zero, a rule of docs/SPEC.md: up to 32 bits C1 and the
+// orders 4 and 5.
 #[derive(Clone, Copy)]
 pub struct Parts {
     pub width: u8,

@@ -37,10 +37,12 @@ fn tell_parts(rt: &impl Print, parts: &Parts) -> io::Result<()> {
     if wide {
         println!(rt; "C1 {}", parts.c1)?;
     }
-    for (k, list) in parts.orders.iter().enumerate() {
-        if k < 4 {
-            tell_order(rt, k, list, parts.width)?;
-        } else if wide {
+    // The first four orders are of the width, the others of 64 bits.
+    for (k, list) in parts.orders.iter().enumerate().take(4) {
+        tell_order(rt, k, list, parts.width)?;
+    }
+    if wide {
+        for (k, list) in parts.orders.iter().enumerate().skip(4) {
             tell_order(rt, k, list, 64)?;
         }
     }
