@@ -4,7 +4,7 @@ ghost use Rattle.meanings.specs.Supplied.{clear};
 ghost use Rattle.meanings.proofs.Lawful.{clear_lawful};
 
 use crate::coding::Coding;
-use crate::refusal::AboveTop;
+use crate::refusal::{AboveTop, at_most};
 
 #[derive(Clone, Copy)]
 pub struct Clear {
@@ -29,7 +29,7 @@ impl Coding for Clear {
     }
 
     fn code(&self, x: u64) -> Result<u64, AboveTop> {
-        if x <= self.top { Ok(x) } else { Err(AboveTop) }
+        at_most(self.top, x)
     }
 
     fn back(&self, y: u64) -> Result<u64, AboveTop> {

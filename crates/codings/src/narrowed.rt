@@ -6,7 +6,7 @@ ghost use Rattle.meanings.specs.Layers.{narrowed};
 ghost use Rattle.meanings.proofs.Narrowing.{narrowed_lawful};
 
 use crate::coding::Coding;
-use crate::refusal::AboveTop;
+use crate::refusal::{AboveTop, at_most};
 use crate::turned::Turned;
 use meanings::narrowed_top;
 
@@ -48,9 +48,7 @@ fn first_within<A: Coding>(below: &A, to: u64, x: u64) -> Result<u64, AboveTop>
     ensures { result ≡ coded (narrowed to (A.Coding.means below.now)) x }
 {
     let top = narrowed_top(to, below.top());
-    if x > top {
-        return Err(AboveTop);
-    }
+    at_most(top, x)?;
     let mut y = below.code(x)?;
     while y > top {
         y = below.code(y)?;

@@ -5,7 +5,7 @@ ghost use Rattle.meanings.specs.Supplied.{plus};
 ghost use Rattle.meanings.proofs.Lawful.{plus_lawful};
 
 use crate::coding::Coding;
-use crate::refusal::AboveTop;
+use crate::refusal::{AboveTop, at_most};
 
 #[derive(Clone, Copy)]
 pub struct Plus {
@@ -37,9 +37,7 @@ impl Coding for Plus {
     }
 
     fn code(&self, x: u64) -> Result<u64, AboveTop> {
-        if x > self.top {
-            return Err(AboveTop);
-        }
+        at_most(self.top, x)?;
         let room = self.top - self.k;
         if wraps(self.top, self.k, x) {
             Ok(x - room - 1)
@@ -49,9 +47,7 @@ impl Coding for Plus {
     }
 
     fn back(&self, y: u64) -> Result<u64, AboveTop> {
-        if y > self.top {
-            return Err(AboveTop);
-        }
+        at_most(self.top, y)?;
         if y >= self.k {
             Ok(y - self.k)
         } else {

@@ -1,12 +1,13 @@
 // The refusal of a coding.
-ghost use Rattle.std.specs.Prelude.{◌≡◌, Some as Shown};
+ghost use Rattle.std.specs.Prelude.{◌≡◌, ◌≤◌, OnOk, Some as Shown};
+ghost use Rattle.codings.specs.Asking.{coded};
 ghost use Rattle.codings.specs.Refusal.{number_of, words_of};
+ghost use Rattle.meanings.specs.Supplied.{clear};
 
 use std::error::Error;
 use std::fmt;
 
-// The number that a coding was asked about is above its top. Each coding asks so in a line of its own: a function for it would
-// take the top and the number, and say no more.
+// The number that a coding was asked about is above its top.
 #[derive(Clone, Copy, PartialEq, Eq, Debug)]
 pub struct AboveTop;
 
@@ -28,3 +29,11 @@ impl fmt::Display for AboveTop {
 }
 
 impl Error for AboveTop {}
+
+// The question that every coding puts first: x again, where it is at most the top.
+pub fn at_most(top: u64, x: u64) -> Result<u64, AboveTop>
+    ensures is { result ≡ coded (clear top) x }
+    ensures within { OnOk result (x ≤ top) }
+{
+    if x <= top { Ok(x) } else { Err(AboveTop) }
+}

@@ -6,7 +6,7 @@ ghost use Rattle.piles.specs.Trees.{facing, other_way, tree_meaning};
 
 use crate::error::PileError;
 use codings::coding::Coding;
-use codings::refusal::AboveTop;
+use codings::refusal::{AboveTop, at_most};
 use meanings::{chained_top, narrowed_top};
 use std::alloc::Global;
 
@@ -103,9 +103,7 @@ impl<C: Coding> Tree<C> {
             Tree::Turned(below) => below.sent(way.turned(), x),
             Tree::Narrowed(below, to) => {
                 let top = narrowed_top(*to, below.top());
-                if x > top {
-                    return Err(AboveTop);
-                }
+                at_most(top, x)?;
                 let mut y = below.sent(way, x)?;
                 while y > top {
                     y = below.sent(way, y)?;

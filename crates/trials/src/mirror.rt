@@ -7,7 +7,7 @@ ghost use Rattle.trials.specs.Mirror.{mirror, mirror_lawful};
 
 use codings::chain::Chain;
 use codings::coding::Coding;
-use codings::refusal::AboveTop;
+use codings::refusal::{AboveTop, at_most};
 
 #[derive(Clone, Copy)]
 pub struct Mirror {
@@ -32,11 +32,7 @@ impl Coding for Mirror {
     }
 
     fn code(&self, x: u64) -> Result<u64, AboveTop> {
-        if x <= self.top {
-            Ok(self.top - x)
-        } else {
-            Err(AboveTop)
-        }
+        Ok(self.top - at_most(self.top, x)?)
     }
 
     fn back(&self, y: u64) -> Result<u64, AboveTop> {
