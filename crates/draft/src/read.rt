@@ -2,6 +2,7 @@
 ghost use Rattle.std.specs.Prelude.{◌≡◌, MatchResult};
 ghost use Rattle.spelling.specs.Spelling.{read_parts, Spells, FirstNo};
 ghost use Rattle.draft.specs.Reads.{only_parts};
+ghost use Rattle.spelling.specs.Sound.{SoundParts};
 ghost use Rattle.spelling.specs.Told.{Told, Unspelt};
 
 use crate::draft::Draft;
@@ -12,7 +13,7 @@ use spelling::parts::Parts;
 // The draft that the bytes spell, or the first fault. Nothing is changed and nothing allocated.
 pub fn read(bytes: &[u8]) -> Result<Draft, Fault>
     ensures by { only_parts result ≡ read_parts bytes.now }
-    ensures told { MatchResult result (λ d. Spells bytes.now d.parts) (λ f. FirstNo bytes.now f × Unspelt bytes.now) }
+    ensures told { MatchResult result (λ d. Spells bytes.now d.parts × SoundParts d.parts) (λ f. FirstNo bytes.now f × Unspelt bytes.now) }
 {
     Ok(Draft::sound(parts_of(bytes)?))
 }
