@@ -2,7 +2,7 @@
 use crate::mirror::Mirror;
 use codings::coding::Coding;
 use codings::refusal::AboveTop;
-use laws::there_and_back;
+use laws::{back_and_there, laws_at, there_and_back};
 use piles::error::PileError;
 use piles::pile::Pile;
 use std::test::Fail;
@@ -20,8 +20,15 @@ fn mirrors(rt: HostRuntime) -> Result<(), Fail> {
     assert_eq!(rt; pile.top(), 6);
     for x in 0..7u64 {
         assert_eq!(rt; there_and_back(&pile, x), Ok(x));
+        assert_eq!(rt; back_and_there(&pile, x), Ok(x));
     }
     assert_eq!(rt; pile.code(7), Err(AboveTop));
+    let laws = laws_at(&Mirror::new(9), &pile, &Mirror::new(5), 7, 6, 3);
+    assert_eq!(rt; laws.regrouped.left, laws.regrouped.right);
+    assert_eq!(rt; laws.turned_twice.left, laws.turned_twice.right);
+    assert_eq!(rt; laws.turned_chain.left, laws.turned_chain.right);
+    assert_eq!(rt; laws.turned_narrowed.left, laws.turned_narrowed.right);
+    assert_eq!(rt; laws.narrowed_twice.left, laws.narrowed_twice.right);
     Ok(())
 }
 
