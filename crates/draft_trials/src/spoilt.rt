@@ -36,6 +36,7 @@ fn each_command_at_fault(rt: HostRuntime) -> Result<(), Fail> {
     faulty(&rt, &[], Reason::NoByte, 0);
     last(&rt, 24, "X", Reason::NoCommand)?;
     last(&rt, 24, "WFA0123X", Reason::NoCommand)?;
+    last(&rt, 33, "WFAB012345X", Reason::NoCommand)?;
     last(&rt, 24, "W6", Reason::NoCommand)?;
     last(&rt, 24, "Wf", Reason::NoCommand)?;
     for letters in [
@@ -44,7 +45,9 @@ fn each_command_at_fault(rt: HostRuntime) -> Result<(), Fail> {
         last(&rt, 24, letters, Reason::OutOfSequence)?;
     }
     last(&rt, 33, "WBB", Reason::OutOfSequence)?;
-    last(&rt, 33, "W44", Reason::OutOfSequence)?;
+    for letters in ["W44", "WFAB012345B", "WFAB012345W"] {
+        last(&rt, 33, letters, Reason::OutOfSequence)?;
+    }
     for letters in ["WB", "W4", "W5", "WFA0123B", "WFA01235"] {
         last(&rt, 24, letters, Reason::NoUse)?;
         last(&rt, 32, letters, Reason::NoUse)?;
@@ -57,7 +60,13 @@ fn each_command_at_fault(rt: HostRuntime) -> Result<(), Fail> {
     ] {
         last(&rt, 24, letters, Reason::Missing)?;
     }
-    for letters in ["WFA0123Z", "WFA012345Z", "WFAB01235Z", "WFAB01234Z"] {
+    for letters in [
+        "WFA0123Z",
+        "WFA012345Z",
+        "WFAB01235Z",
+        "WFAB01234Z",
+        "WAB012345Z",
+    ] {
         last(&rt, 33, letters, Reason::Missing)?;
     }
     Ok(())
@@ -65,13 +74,15 @@ fn each_command_at_fault(rt: HostRuntime) -> Result<(), Fail> {
 
 #[test]
 fn nothing_after_the_end(rt: HostRuntime) -> Result<(), Fail> {
-    for byte in [0, b'Z', b'W', 255] {
-        let mut sample = spelt(rt.alloc(), 24, "WFA0123Z")?;
-        let end = sample.len();
-        sample.push(byte)?;
-        faulty(&rt, sample.all(), Reason::GoesOn, end);
-        sample.push(byte)?;
-        faulty(&rt, sample.all(), Reason::GoesOn, end);
+    for (width, letters) in [(24, "WFA0123Z"), (33, "WFAB012345Z")] {
+        for byte in [0, b'Z', b'W', 255] {
+            let mut sample = spelt(rt.alloc(), width, letters)?;
+            let end = sample.len();
+            sample.push(byte)?;
+            faulty(&rt, sample.all(), Reason::GoesOn, end);
+            sample.push(byte)?;
+            faulty(&rt, sample.all(), Reason::GoesOn, end);
+        }
     }
     Ok(())
 }
@@ -105,6 +116,7 @@ fn constants_that_do_not_fit(rt: HostRuntime) -> Result<(), Fail> {
         constants_at_fault(&rt, 33, letters, 1 << 33)?;
         constants_at_fault(&rt, 63, letters, 1 << 63)?;
     }
+    constants_at_fault(&rt, 33, "WFB012345", 1 << 33)?;
     Ok(())
 }
 
@@ -131,10 +143,14 @@ fn lists_that_are_no_orders(rt: HostRuntime) -> Result<(), Fail> {
     places_at_fault(&rt, "W3", 33)?;
     places_at_fault(&rt, "WFA0123B4", 64)?;
     places_at_fault(&rt, "WFAB01235", 64)?;
-    let mut repeated = spelt(rt.alloc(), 24, "W0")?;
-    let at = repeated.last;
-    repeated.set(at.saturating_add(24), 0);
-    faulty(&rt, repeated.all(), Reason::NoOrder(23), at);
+    places_at_fault(&rt, "WFAB012345", 64)?;
+    // A bit that stands before, at the first and the last place that can be so.
+    for (width, letters, place) in [(24, "W0", 1), (24, "W0", 23), (33, "WFAB012345", 63)] {
+        let mut repeated = spelt(rt.alloc(), width, letters)?;
+        let at = repeated.last;
+        repeated.set(at.saturating_add(1).saturating_add(place), 0);
+        faulty(&rt, repeated.all(), Reason::NoOrder(place), at);
+    }
     Ok(())
 }
 
@@ -188,6 +204,50 @@ fn the_earlier_question_decides(rt: HostRuntime) -> Result<(), Fail> {
     wide.push(65)?;
     wide.push(b'X')?;
     faulty(&rt, wide.all(), Reason::BadWidth, 0);
+    Ok(())
+}
+
+// A command at fault, and one of each fault after it: a later operand that is cut off, letter, sequence, use, constant, list and
+// end, and at last a byte after everything else.
+#[test]
+fn the_earlier_command_decides(rt: HostRuntime) -> Result<(), Fail> {
+    for (width, letters, letter, fill, times, reason, rest) in [
+        (24, "W", b'X', 0, 0, Reason::NoCommand, "FA0123Z"),
+        (24, "WF", b'P', 0, 0, Reason::OutOfSequence, "A0123Z"),
+        (24, "W", b'B', 0, 8, Reason::NoUse, "FA0123Z"),
+        (23, "", b'W', 23, 1, Reason::BadWidth, "FA0123Z"),
+        (24, "W", b'A', 255, 8, Reason::TooLarge, "F0123Z"),
+        (24, "W", b'0', 255, 64, Reason::NoOrder(0), "FA123Z"),
+    ] {
+        for (later, byte, many) in [
+            (b'1', 0, 0),
+            (b'x', 0, 0),
+            (b'W', 24, 1),
+            (b'4', 0, 64),
+            (b'A', 255, 8),
+            (b'1', 255, 64),
+            (b'Z', 0, 0),
+        ] {
+            let mut sample = spelt(rt.alloc(), width, letters)?;
+            let at = sample.len();
+            sample.push(letter)?;
+            sample.repeat(fill, times)?;
+            sample.push(later)?;
+            sample.repeat(byte, many)?;
+            faulty(&rt, sample.all(), reason, at);
+        }
+        let mut sample = spelt(rt.alloc(), width, letters)?;
+        let at = sample.len();
+        sample.push(letter)?;
+        sample.repeat(fill, times)?;
+        for letter in rest.chars() {
+            sample.command(width, letter)?;
+        }
+        sample.push(b'Z')?;
+        faulty(&rt, sample.all(), reason, at);
+    }
+    // An operand that is cut off, and Z where something is missing.
+    faulty(&rt, b"W\x18FAZ", Reason::NoByte, 3);
     Ok(())
 }
 

@@ -1,8 +1,9 @@
 -- What an answer of the reader tells: a draft that is spelt has sound parts, and a fault is the first no.
-use Rattle.std.proofs.Common.{◌≡◌, ℕ, ◌+◌, ◌^◌, ◌<◌, ◌≤◌, true, false, ◌⊎◌, List, [], ◌∷◌, length, get_or, Ok, Err, Result, sym, refl, ap, ◌∙◌, subst, inl, inr, arith}
+use Rattle.std.proofs.Common.{◌≡◌, ℕ, ◌+◌, ◌^◌, ◌<◌, ◌≤◌, true, false, ◌⊎◌, List, [], ◌∷◌, length, take, get_or, Ok, Err, Result, sym, refl, ap, ◌∙◌, subst, inl, inr, arith}
 use Rattle.std.specs.List.{AllByRecursion}
 use Rattle.std.proofs.lemmas.Bool.{cases_lt}
-use Rattle.bits.specs.Orders.{Sound}
+use Rattle.bits.specs.Orders.{IsOrder, Sound}
+use Rattle.bits.proofs.Orders.{sound_order}
 use Rattle.spelling.specs.declared.parts.Parts.{Parts}
 use Rattle.spelling.specs.declared.command.Part.{Part as PartT}
 use Rattle.spelling.specs.declared.command.Part.TheVariants.{Flow, C0, C1, Order}
@@ -70,10 +71,19 @@ spells_sound bytes p s =
       r3 = (low 3 (omega arith) refl).sound;
       r4 = λ wide. (high 4 (omega arith) wide).sound;
       r5 = λ wide. (high 5 (omega arith) wide).sound;
+      order0 = ordered n 0 s.most (low 0 (omega arith) refl).long (low 0 (omega arith) refl).sound;
+      order1 = ordered n 1 s.most (low 1 (omega arith) refl).long (low 1 (omega arith) refl).sound;
+      order2 = ordered n 2 s.most (low 2 (omega arith) refl).long (low 2 (omega arith) refl).sound;
+      order3 = ordered n 3 s.most (low 3 (omega arith) refl).long (low 3 (omega arith) refl).sound;
+      order4 = λ wide. ordered 64 4 (omega arith) (high 4 (omega arith) wide).long (high 4 (omega arith) wide).sound;
+      order5 = λ wide. ordered 64 5 (omega arith) (high 5 (omega arith) wide).long (high 5 (omega arith) wide).sound;
     }
   where
     n : ℕ
     n = p.width
+
+    ordered : (m j : ℕ) → m ≤ 64 → length (get_or p.orders j []) ≡ 64 → Sound m (get_or p.orders j []) → IsOrder m (take m (get_or p.orders j []))
+    ordered m j fits long sound = sound_order m (get_or p.orders j []) (omega arith) sound
 
     at : (k : ℕ) → k < 9 → (wide_place k ≡ true → 32 < n) → Found n p k
     at k few wide = found n p k s.items (s.all k (few, wide)) s.right s.has

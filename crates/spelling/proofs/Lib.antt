@@ -1,5 +1,6 @@
 pub mod Operands
 pub mod Turning
+pub mod Refusing
 pub mod Advancing
 pub mod Items
 pub mod Following

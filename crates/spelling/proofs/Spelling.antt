@@ -7,6 +7,7 @@ use Rattle.spelling.specs.declared.fault.Fault.{Fault}
 use Rattle.spelling.specs.Reading.{Reading}
 use Rattle.spelling.specs.Turns.{start, turn, Good}
 use Rattle.spelling.specs.Spelling.{Item, letter_of, written, Right, New, Once, Given, Needed, Spells, FirstNo, after_width, run}
+use Rattle.spelling.proofs.Refusing.{yes_before}
 use Rattle.spelling.proofs.Advancing.{advances}
 use Rattle.spelling.proofs.Items.{once_new, all_at, parts_same}
 use Rattle.spelling.proofs.Following.{Kept, Follows, before_of, follows_width, follows_more, next_of, rest_long, front_of, front_long, item_read, another}
@@ -96,7 +97,7 @@ fault_from (suc k) bytes x s n items rest f h e = go (leads_to (turn bytes s)) (
         → FirstNo bytes x
     go (fails y t) later =
         let m : y ≡ x = cc (run_fails k bytes s y t) in
-        record { reading = s; before = inr (before_of bytes s n items rest f); first = t ∙ ap Err m }
+        record { reading = s; before = inr (before_of bytes s n items rest f); yes = yes_before bytes s x (t ∙ ap Err m); first = t ∙ ap Err m }
     go (ends q t) later = cc (run_ends k bytes s q t)
     go (goes next t) later =
         let a = another bytes s n items rest next f t in
@@ -109,7 +110,7 @@ fault_first_no (suc k) bytes x h e = go (leads_to (turn bytes start))
     go : Leads (turn bytes start) → FirstNo bytes x
     go (fails y t) =
         let m : y ≡ x = cc (run_fails k bytes start y t) in
-        record { reading = start; before = inl refl; first = t ∙ ap Err m }
+        record { reading = start; before = inl refl; yes = yes_before bytes start x (t ∙ ap Err m); first = t ∙ ap Err m }
     go (ends q t) = absurd (not_begun_done bytes q t)
     go (goes next t) =
         let b = begun bytes next t in

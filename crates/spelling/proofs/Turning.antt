@@ -22,7 +22,7 @@ pub record Asked (bytes : List ℕ) (s : Reading) (c : Command) (t : Turn) : Typ
   pub there : s.at + operands_of c < length bytes
   pub leads : after bytes s c ≡ Ok t
 
-abbrev at_letter : Reading → Option Command → Result Command Fault
+abbrev pub at_letter : Reading → Option Command → Result Command Fault
 at_letter s o = elim o [ None ↦ Err (record { reason = NoCommand; offset = s.at }) | Some c ↦ Ok c ]
 
 pub asked : (bytes : List ℕ) (s : Reading) (t : Turn) → turn bytes s ≡ Ok t → (c : Command) × Asked bytes s c t

@@ -3,6 +3,7 @@ pub mod Faults
 pub mod Flows
 pub mod Reading
 pub mod Turns
+pub mod Answered
 pub mod Steps
 pub mod Spelling
 pub mod Sound

@@ -12,6 +12,7 @@ use Rattle.spelling.specs.declared.fault.Reason.TheVariants.{NoByte}
 use Rattle.spelling.specs.Reading.{Reading, More, Done}
 use Rattle.spelling.specs.Commands.{index_of, place_of, part_operands, has_use, wide_place}
 use Rattle.spelling.specs.Turns.{blank, start, with_width, put_part, number, order_size, turn}
+use Rattle.spelling.specs.Answered.{YesBefore}
 use Rattle.spelling.specs.Steps.{noted}
 
 -- A part as it is written: F or P; A or B and eight bytes; a digit and 64 bytes.
@@ -103,11 +104,12 @@ pub record Before (bytes : List ℕ) (s : Reading) : Type 0 where
   pub once : Once items
   pub reading : s ≡ after_items (after_width n) items
 
--- A fault is the first no: everything before its command was right, and of the command's questions, in their sequence, it is
--- the first whose answer is no.
+-- A fault is the first no: everything before its command was right, the questions of the command before its own were answered
+-- yes, and of them all, in their sequence, it is the first whose answer is no.
 pub record FirstNo (bytes : List ℕ) (f : Fault) : Type 0 where
   pub reading : Reading
   pub before : (reading ≡ start) ⊎ Before bytes reading
+  pub yes : YesBefore bytes reading f.reason
   pub first : turn bytes reading ≡ Err f
 
 -- The reader, by at most k commands.

@@ -1,5 +1,5 @@
 // What a draft says, as plain data.
-ghost use Rattle.std.specs.Prelude.{Some as Shown};
+ghost use Rattle.std.specs.Prelude.{Some as Shown, None as Unshown};
 ghost use Rattle.spelling.specs.Flows.{name_of};
 
 use std::fmt;
@@ -32,4 +32,41 @@ pub struct Parts {
     pub c0: u64,
     pub c1: u64,
     pub orders: [[u8; 64]; 6],
+}
+
+// A line each: width and flow, C0, C1 where the width has a use for it, and each order by the places that count.
+impl fmt::Display for Parts {
+    ghost output = { λ _. Unshown };
+
+    fn fmt<W: fmt::Write>(&self, f: &mut fmt::Formatter<W>) -> fmt::Result {
+        let wide = self.width > 32;
+        write!(f, "width {}, flow {}", self.width, self.flow)?;
+        write!(f, "\nC0 {}", self.c0)?;
+        if wide {
+            write!(f, "\nC1 {}", self.c1)?;
+        }
+        // The first four orders are of the width, the others of 64 bits.
+        for (k, list) in self.orders.iter().enumerate().take(4) {
+            fmt_order(f, k, list, self.width)?;
+        }
+        if wide {
+            for (k, list) in self.orders.iter().enumerate().skip(4) {
+                fmt_order(f, k, list, 64)?;
+            }
+        }
+        Ok(())
+    }
+}
+
+fn fmt_order<W: fmt::Write>(
+    f: &mut fmt::Formatter<W>,
+    k: usize,
+    list: &[u8; 64],
+    size: u8,
+) -> fmt::Result {
+    write!(f, "\norder {k}:")?;
+    for place in list.iter().take(size.into()) {
+        write!(f, " {place}")?;
+    }
+    Ok(())
 }
