@@ -22,7 +22,7 @@ flex_undone m some =
     }
 
 -- one map after another
-after : (m : ℕ) (f g f' g' : ℕ → ℕ) → Undone m f g → Undone m f' g' → Undone m (λ x. f' (f x)) (λ y. g (g' y))
+pub after : (m : ℕ) (f g f' g' : ℕ → ℕ) → Undone m f g → Undone m f' g' → Undone m (λ x. f' (f x)) (λ y. g (g' y))
 after m f g f' g' a b =
     record {
       within = λ x h. b.within (f x) (a.within x h);
@@ -31,7 +31,7 @@ after m f g f' g' a b =
       redoes = λ y h. ap f' (a.redoes (g' y) (b.lands y h)) ∙ b.redoes y h;
     }
 
-xor_undone : (m r : ℕ) → r < 2 ^ m → Undone m (λ x. bit_xor x r) (λ y. bit_xor y r)
+pub xor_undone : (m r : ℕ) → r < 2 ^ m → Undone m (λ x. bit_xor x r) (λ y. bit_xor y r)
 xor_undone m r small =
     record {
       within = λ x h. xor_lt m x r h small;
@@ -43,7 +43,7 @@ xor_undone m r small =
     twice : (x : ℕ) → bit_xor (bit_xor x r) r ≡ x
     twice x = xor_assoc x r r ∙ ap (bit_xor x) (xor_self r) ∙ xor_zero_r x
 
-sum_undone : (m r : ℕ) → Undone m (λ x. sum m x r) (λ y. less m y r)
+pub sum_undone : (m r : ℕ) → Undone m (λ x. sum m x r) (λ y. less m y r)
 sum_undone m r =
     record {
       within = λ x h. mod_below (x + r) (2 ^ m) (pow_pos m);
@@ -61,7 +61,7 @@ turned_undone m k some =
       redoes = λ y h. (turns_back m k y some).right ∙ mod-eq_of_lt h;
     }
 
-cpa_undone : (m r0 r1 : ℕ) → 0 < low_part m → r0 < 2 ^ m → Undone m (cpa m r0 r1) (cpa_back m r0 r1)
+pub cpa_undone : (m r0 r1 : ℕ) → 0 < low_part m → r0 < 2 ^ m → Undone m (cpa m r0 r1) (cpa_back m r0 r1)
 unfolding cpa cpa_back
 cpa_undone m r0 r1 some small =
     let t = field_good m (low_part m) refl some in

@@ -1,0 +1,58 @@
+-- The steps of the cipher, each a coding of its own, and the chains that they make.
+use Rattle.std.specs.Prelude.{ℕ, ◌-◌, ◌^◌, List, bit_xor}
+use Rattle.bits.specs.Orders.{moved, gathered}
+use Rattle.bits.specs.Words.{sum, less}
+use Rattle.boxes.specs.Boxes.{flex_box}
+use Rattle.meanings.specs.Layers.{chained}
+use Rattle.meanings.specs.Meaning.{Meaning, Same, SameBack}
+use Rattle.flows.specs.Flows.{Setting, Kind, boxed}
+
+-- A coding of all numbers of n bits.
+abbrev pub block : ℕ → (ℕ → ℕ) → (ℕ → ℕ) → Meaning
+block n does undoes = record { top = 2 ^ n - 1; rule = does; back = undoes }
+
+abbrev pub added : ℕ → ℕ → Meaning
+added n k = block n (λ x. sum n x k) (λ y. less n y k)
+
+abbrev pub reordered : ℕ → List ℕ → Meaning
+reordered n r = block n (moved r) (gathered r)
+
+abbrev pub substituted : ℕ → Kind → Kind → Meaning
+substituted n f g = block n (boxed n f) (boxed n g)
+
+abbrev pub masked : ℕ → ℕ → Meaning
+masked n k = block n (λ x. bit_xor x k) (λ y. bit_xor y k)
+
+-- Flex in ten steps.
+abbrev pub flex_steps : Setting → Meaning
+flex_steps s =
+    let n = s.width in
+    chained (added n s.c0) (
+    chained (added n s.k0) (
+    chained (reordered n s.r0) (
+    chained (substituted n flex_box flex_box) (
+    chained (reordered n s.r1) (
+    chained (added n s.k1) (
+    chained (reordered n s.r2) (
+    chained (substituted n flex_box flex_box) (
+    chained (reordered n s.r3) (masked n s.k2)))))))))
+
+-- CPA in eleven.
+abbrev pub cpa_steps : Setting → (f0 f1 f2 g0 g1 g2 : Kind) → Meaning
+cpa_steps s f0 f1 f2 g0 g1 g2 =
+    let n = s.width in
+    chained (added n s.c0) (
+    chained (added n s.k0) (
+    chained (reordered n s.r0) (
+    chained (substituted n f0 g0) (
+    chained (added n s.k1) (
+    chained (reordered n s.r1) (
+    chained (substituted n f1 g1) (
+    chained (added n s.k2) (
+    chained (reordered n s.r2) (
+    chained (substituted n f2 g2) (masked n (moved s.r3 s.k2)))))))))))
+
+-- Equal codings, which have equal ways back too.
+pub record Equal (a b : Meaning) : Type 0 where
+  pub same : Same a b
+  pub backs : SameBack a b
