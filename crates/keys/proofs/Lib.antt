@@ -1,0 +1,3 @@
+pub mod Bytes
+pub mod Sure
+pub mod Scheduling
