@@ -1,0 +1,4 @@
+pub mod Settings
+pub mod Rounds
+pub mod Ciphers
+pub mod Making
