@@ -1,0 +1,67 @@
+// Keys of another length, and with spare bits set.
+use crate::sample::{key_length, long_key, plain, there};
+use kcipher::make::make;
+use keys::refusal::KeyRefusal;
+use spelling::parts::Flow;
+use std::test::Fail;
+
+// Widths, flows and the bits of their keys.
+const KEYS: [(u8, Flow, usize); 9] = [
+    (24, Flow::Flex, 96),
+    (25, Flow::Flex, 96),
+    (32, Flow::Flex, 96),
+    (33, Flow::Flex, 128),
+    (64, Flow::Flex, 128),
+    (25, Flow::Cpa, 246),
+    (26, Flow::Cpa, 252),
+    (33, Flow::Cpa, 326),
+    (64, Flow::Cpa, 512),
+];
+
+#[test]
+fn a_key_has_the_bytes_that_its_bits_fill(rt: HostRuntime) -> Result<(), Fail> {
+    let bytes = long_key(1);
+    for (width, flow, bits) in KEYS {
+        let draft = plain(rt.alloc(), width, flow)?;
+        for length in 0..=bytes.len() {
+            let key = there(bytes.get(..length))?;
+            let refused = if length == bits.div_ceil(8) {
+                None
+            } else {
+                Some(KeyRefusal::WrongLength)
+            };
+            assert_eq!(rt; make(&draft, key, &mut [0; 24]).err(), refused);
+        }
+    }
+    Ok(())
+}
+
+#[test]
+fn a_key_of_13_bytes_is_refused_by_flex_at_width_25(rt: HostRuntime) -> Result<(), Fail> {
+    let draft = plain(rt.alloc(), 25, Flow::Flex)?;
+    let refusal = make(&draft, &[0; 13], &mut [0; 24]).err();
+    assert_eq!(rt; refusal.map(|refusal| refusal.number()), Some(11));
+    assert_eq!(rt; key_length(25, Flow::Cpa), 31);
+    Ok(())
+}
+
+// Each bit of the last byte: those of the key may be set, and the spare ones may not.
+#[test]
+fn each_spare_bit_is_refused(rt: HostRuntime) -> Result<(), Fail> {
+    for (width, flow, bits) in KEYS {
+        let draft = plain(rt.alloc(), width, flow)?;
+        let length = bits.div_ceil(8);
+        for bit in 0..8 {
+            let mut bytes = long_key(0);
+            *there(bytes.get_mut(length.saturating_sub(1)))? = 1 << bit;
+            let refused = if 8 * length.saturating_sub(1) + bit < bits {
+                None
+            } else {
+                Some(KeyRefusal::SpareBits)
+            };
+            let key = there(bytes.get(..length))?;
+            assert_eq!(rt; make(&draft, key, &mut [0; 24]).err(), refused);
+        }
+    }
+    Ok(())
+}
