@@ -5,8 +5,7 @@ use book::call::{Answer, Call};
 use book::entry::Entry;
 use book::refusal::Refusal;
 use book::row::Row;
-use codings::plus::Plus;
-use piles::pile::Pile;
+use codings::coding::Coding;
 use release::column_codings::ColumnCodings;
 use release::open_and_call;
 use release::ran::Ran;
@@ -16,9 +15,9 @@ use std::io;
 const ROLES: [char; 3] = ['Y', 'H', 'C'];
 
 // Opens a release over four row records, makes the calls of the day, tells the answers, and seals it.
-pub fn keep_release(
+pub fn keep_release<Y: Coding, H: Coding>(
     rt: &HostRuntime,
-    codings: &ColumnCodings<Pile<Plus>, Pile<Plus>>,
+    codings: &ColumnCodings<Y, H>,
 ) -> anyhow::Result<()> {
     let calls = [
         Call::Put(&[376, 17, 4]),
