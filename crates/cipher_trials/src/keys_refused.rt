@@ -1,5 +1,6 @@
 // Keys of another length, and with spare bits set.
-use crate::sample::{key_length, long_key, plain, there};
+use crate::sample::{long_key, plain, there};
+use draft::draft::Draft;
 use kcipher::make::make;
 use keys::refusal::KeyRefusal;
 use spelling::parts::Flow;
@@ -37,12 +38,19 @@ fn a_key_has_the_bytes_that_its_bits_fill(rt: HostRuntime) -> Result<(), Fail> {
 }
 
 #[test]
-fn a_key_of_13_bytes_is_refused_by_flex_at_width_25(rt: HostRuntime) -> Result<(), Fail> {
-    let draft = plain(rt.alloc(), 25, Flow::Flex)?;
-    let refusal = make(&draft, &[0; 13], &mut [0; 24]).err();
-    assert_eq!(rt; refusal.map(|refusal| refusal.number()), Some(11));
-    assert_eq!(rt; key_length(25, Flow::Cpa), 31);
+fn keys_of_12_and_31_bytes_fit_at_width_25(rt: HostRuntime) -> Result<(), Fail> {
+    let flex = plain(rt.alloc(), 25, Flow::Flex)?;
+    assert_eq!(rt; number(&flex, &[0; 13]), Some(11));
+    assert_eq!(rt; number(&flex, &[0; 12]), None);
+    let cpa = plain(rt.alloc(), 25, Flow::Cpa)?;
+    assert_eq!(rt; number(&cpa, &[0; 30]), Some(11));
+    assert_eq!(rt; number(&cpa, &[0; 31]), None);
     Ok(())
+}
+
+// The number of the refusal, where there is one.
+fn number(draft: &Draft, key: &[u8]) -> Option<u8> {
+    Some(make(draft, key, &mut [0; 24]).err()?.number())
 }
 
 // Each bit of the last byte: those of the key may be set, and the spare ones may not.

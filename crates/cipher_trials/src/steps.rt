@@ -49,12 +49,26 @@ fn a_cipher_is_the_chain_of_its_steps(rt: HostRuntime) -> Result<(), Fail> {
         let cipher = cipher(&spelt(rt.alloc(), 64, flow, 9, &crossing())?)?;
         for x in [0, 1, 0x0123_4567_89ab_cdef, u64::MAX] {
             let (code, number) = match &cipher {
-                KCipher::Flex(flex) => (flex.steps().code(x), flex.steps().back(x)),
-                KCipher::Cpa(cpa) => (cpa.steps().code(x), cpa.steps().back(x)),
+                KCipher::Flex(flex) => (flex.chain().code(x), flex.chain().back(x)),
+                KCipher::Cpa(cpa) => (cpa.chain().code(x), cpa.chain().back(x)),
             };
             assert_eq!(rt; code, cipher.code(x));
             assert_eq!(rt; number, cipher.back(x));
         }
     }
+    Ok(())
+}
+
+#[test]
+fn a_step_is_a_coding_of_its_own(rt: HostRuntime) -> Result<(), Fail> {
+    let KCipher::Flex(flex) = cipher(&plain(rt.alloc(), 24, Flow::Flex)?)? else {
+        return Err(Fail::new("no Flex"));
+    };
+    let steps = flex.steps();
+    assert_eq!(rt; steps.order0.code(0x123456), Ok(0x123456));
+    assert_eq!(rt; steps.add_c0.code(0xffffff), Ok(0xffffff));
+    assert_eq!(rt; steps.boxes0.code(0x53), Ok(0xca));
+    assert_eq!(rt; steps.boxes0.back(0xca), Ok(0x53));
+    assert_eq!(rt; steps.mask_k2.code(0x1000000), Err(AboveTop));
     Ok(())
 }

@@ -11,7 +11,7 @@ use Rattle.spelling.specs.declared.parts.Flow.{Flow}
 use Rattle.spelling.specs.declared.parts.Flow.TheVariants.{Flex, Cpa}
 use Rattle.spelling.specs.declared.parts.Parts.{Parts}
 use Rattle.spelling.specs.Sound.{SoundParts}
-use Rattle.flows.specs.Flows.{Setting, Kind, boxed, flex_encrypt, flex_decrypt, cpa_encrypt, cpa_decrypt}
+use Rattle.flows.specs.Flows.{Setting, Kind, through_boxes, flex_encrypt, flex_decrypt, cpa_encrypt, cpa_decrypt}
 use Rattle.flows.specs.Keys.{first_row, second_row, round_key, round_box, round_box_back, randomizer, schedule, with_more, expanded}
 use Rattle.flows.specs.Published.{setting, published}
 use Rattle.flows.specs.Steps.{block, Equal}
@@ -77,24 +77,24 @@ module _ (p : Parts) (key : List ℕ) (sound : SoundParts p) where
 
 -- CPA with boxes that come to the same.
 module _ (s : Setting) (f0 f1 f2 g0 g1 g2 : Kind)
-    (h0 : (x : ℕ) → boxed s.width f0 x ≡ boxed s.width g0 x)
-    (h1 : (x : ℕ) → boxed s.width f1 x ≡ boxed s.width g1 x)
-    (h2 : (x : ℕ) → boxed s.width f2 x ≡ boxed s.width g2 x) where
+    (h0 : (x : ℕ) → through_boxes s.width f0 x ≡ through_boxes s.width g0 x)
+    (h1 : (x : ℕ) → through_boxes s.width f1 x ≡ through_boxes s.width g1 x)
+    (h2 : (x : ℕ) → through_boxes s.width f2 x ≡ through_boxes s.width g2 x) where
   pub encrypt_same : (x : ℕ) → cpa_encrypt s f0 f1 f2 x ≡ cpa_encrypt s g0 g1 g2 x
   encrypt_same x =
       let n = s.width in
-      let veil = moved s.r3 s.k2 in
-      ap (λ z. bit_xor (boxed n f2 (moved s.r2 (sum n (boxed n f1 (moved s.r1 (sum n z s.k1))) s.k2))) veil) (h0 _)
-      ∙ ap (λ z. bit_xor (boxed n f2 (moved s.r2 (sum n z s.k2))) veil) (h1 _)
+      let veil = moved s.order3 s.k2 in
+      ap (λ z. bit_xor (through_boxes n f2 (moved s.order2 (sum n (through_boxes n f1 (moved s.order1 (sum n z s.k1))) s.k2))) veil) (h0 _)
+      ∙ ap (λ z. bit_xor (through_boxes n f2 (moved s.order2 (sum n z s.k2))) veil) (h1 _)
       ∙ ap (λ z. bit_xor z veil) (h2 _)
 
   pub decrypt_same : (y : ℕ) → cpa_decrypt s f0 f1 f2 y ≡ cpa_decrypt s g0 g1 g2 y
   decrypt_same y =
       let n = s.width in
-      let veil = moved s.r3 s.k2 in
-      ap (λ z. less n (less n (gathered s.r0 (boxed n f0 (less n (gathered s.r1 (boxed n f1 (less n (gathered s.r2 z) s.k2))) s.k1))) s.k0) s.c0) (h2 _)
-      ∙ ap (λ z. less n (less n (gathered s.r0 (boxed n f0 (less n (gathered s.r1 z) s.k1))) s.k0) s.c0) (h1 _)
-      ∙ ap (λ z. less n (less n (gathered s.r0 z) s.k0) s.c0) (h0 _)
+      let veil = moved s.order3 s.k2 in
+      ap (λ z. less n (less n (gathered s.order0 (through_boxes n f0 (less n (gathered s.order1 (through_boxes n f1 (less n (gathered s.order2 z) s.k2))) s.k1))) s.k0) s.c0) (h2 _)
+      ∙ ap (λ z. less n (less n (gathered s.order0 (through_boxes n f0 (less n (gathered s.order1 z) s.k1))) s.k0) s.c0) (h1 _)
+      ∙ ap (λ z. less n (less n (gathered s.order0 z) s.k0) s.c0) (h0 _)
 
 -- A CPA coding whose boxes find their random parts in numbers of n bits.
 pub cpa_is : (p : Parts) (key : List ℕ) → SoundParts p → (s : Setting) (a0 b0 a1 b1 a2 b2 : ℕ) → s ≡ setting p key → p.flow ≡ Cpa

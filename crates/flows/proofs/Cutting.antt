@@ -8,7 +8,7 @@ use Rattle.boxes.specs.Kinds.{cpa_undone}
 use Rattle.boxes.specs.Layouts.{layout, widths}
 use Rattle.boxes.proofs.Layouts.{layout_cut}
 use Rattle.boxes.proofs.Rows.{bits_widths}
-use Rattle.flows.specs.Flows.{Kind, boxed}
+use Rattle.flows.specs.Flows.{Kind, through_boxes}
 use Rattle.flows.specs.Keys.{first_row, second_row, first_part, second_part, round_box, round_box_back}
 use Rattle.flows.specs.Strings.{number_at}
 
@@ -61,7 +61,7 @@ layer_same f g n p (m ∷ ms) same fits x =
     ap (λ z. z * 2 ^ m + f p m (x % 2 ^ m)) (layer_same f g n (p + m) ms same (omega arith) (x / 2 ^ m))
     ∙ ap (λ z. layer g (p + m) ms (x / 2 ^ m) * 2 ^ m + z) (same p m (x % 2 ^ m) (omega arith))
 
-pub boxed_same : (f g : Kind) (n : ℕ) → 24 ≤ n → n ≤ 64 → ((q m v : ℕ) → q + m ≤ n → f q m v ≡ g q m v) → (x : ℕ) → boxed n f x ≡ boxed n g x
+pub boxed_same : (f g : Kind) (n : ℕ) → 24 ≤ n → n ≤ 64 → ((q m v : ℕ) → q + m ≤ n → f q m v ≡ g q m v) → (x : ℕ) → through_boxes n f x ≡ through_boxes n g x
 boxed_same f g n a b same x = layer_same f g n 0 (widths (layout n)) same (let e = bits_widths n (layout n) (layout_cut n a b) in omega arith) x
 
 module _ (n : ℕ) (random : ℕ → ℕ) (b : OfBits random) (least : 24 ≤ n) (most : n ≤ 64) (j : ℕ) where
@@ -71,12 +71,12 @@ module _ (n : ℕ) (random : ℕ → ℕ) (b : OfBits random) (least : 24 ≤ n)
   second_cut : (p m : ℕ) → p + m ≤ n → second_row n random j / 2 ^ p % 2 ^ m ≡ second_part n random j p m
   second_cut p m h = number_cut random b ((2 * j + 1) * n) n p m h
 
-  pub round_same : (x : ℕ) → boxed n (cpa_box (first_row n random j) (second_row n random j)) x ≡ boxed n (round_box n random j) x
+  pub round_same : (x : ℕ) → through_boxes n (cpa_box (first_row n random j) (second_row n random j)) x ≡ through_boxes n (round_box n random j) x
   round_same =
       boxed_same _ _ n least most (λ p m v h.
       ap (λ z. cpa m z (second_row n random j / 2 ^ p % 2 ^ m) v) (first_cut p m h) ∙ ap (λ z. cpa m (first_part n random j p m) z v) (second_cut p m h))
 
-  pub round_back_same : (y : ℕ) → boxed n (cpa_box_back (first_row n random j) (second_row n random j)) y ≡ boxed n (round_box_back n random j) y
+  pub round_back_same : (y : ℕ) → through_boxes n (cpa_box_back (first_row n random j) (second_row n random j)) y ≡ through_boxes n (round_box_back n random j) y
   round_back_same =
       boxed_same _ _ n least most (λ p m v h.
       ap (λ z. cpa_back m z (second_row n random j / 2 ^ p % 2 ^ m) v) (first_cut p m h) ∙ ap (λ z. cpa_back m (first_part n random j p m) z v) (second_cut p m h))

@@ -14,17 +14,17 @@ use Rattle.boxes.proofs.Rows.{rows_undone}
 use Rattle.meanings.specs.Layers.{chained, turned, stretched}
 use Rattle.meanings.specs.Meaning.{Meaning, Lawful}
 use Rattle.meanings.proofs.Lawful.{stretched_in}
-use Rattle.flows.specs.Flows.{Setting, Kind, boxed, flex_encrypt, flex_decrypt, cpa_encrypt, cpa_decrypt}
+use Rattle.flows.specs.Flows.{Setting, Kind, through_boxes, flex_encrypt, flex_decrypt, cpa_encrypt, cpa_decrypt}
 use Rattle.flows.specs.Steps.{block, flex_steps, cpa_steps, Equal}
 
 -- A width with boxes, orders of it, and a last round key that fits.
 pub record Fits (s : Setting) : Type 0 where
   pub least : 24 ≤ s.width
   pub most : s.width ≤ 64
-  pub o0 : IsOrder s.width s.r0
-  pub o1 : IsOrder s.width s.r1
-  pub o2 : IsOrder s.width s.r2
-  pub o3 : IsOrder s.width s.r3
+  pub o0 : IsOrder s.width s.order0
+  pub o1 : IsOrder s.width s.order1
+  pub o2 : IsOrder s.width s.order2
+  pub o3 : IsOrder s.width s.order3
   pub small : s.k2 < 2 ^ s.width
 
 pub order_undone : (n : ℕ) (r : List ℕ) → IsOrder n r → Undone n (moved r) (gathered r)
@@ -36,7 +36,7 @@ order_undone n r o =
 pub order_is : (o : Order) → IsOrder o.size.bits (order o)
 order_is o = let long = o.long in let fits = o.size.fits in sound_order o.size.bits o.places (omega arith) o.sound
 
-pub boxes_undone : (n : ℕ) → 24 ≤ n → n ≤ 64 → (f g : Kind) → Boxed f g → Undone n (boxed n f) (boxed n g)
+pub boxes_undone : (n : ℕ) → 24 ≤ n → n ≤ 64 → (f g : Kind) → Boxed f g → Undone n (through_boxes n f) (through_boxes n g)
 boxes_undone n a b f g u = rows_undone n (layout n) (layout_cut n a b) f g u
 
 -- up to the top is below the power
@@ -98,7 +98,7 @@ module _ (s : Setting) (fits : Fits s) where
   adds : (k : ℕ) → Undone s.width (λ x. sum s.width x k) (λ y. less s.width y k)
   adds k = sum_undone s.width k
 
-  boxes : (f g : Kind) → Boxed f g → Undone s.width (boxed s.width f) (boxed s.width g)
+  boxes : (f g : Kind) → Boxed f g → Undone s.width (through_boxes s.width f) (through_boxes s.width g)
   boxes = boxes_undone s.width fits.least fits.most
 
   pub flex_comes : Comes s.width (flex_steps s) (flex_encrypt s) (flex_decrypt s)
@@ -107,13 +107,13 @@ module _ (s : Setting) (fits : Fits s) where
       let sbox = boxes flex_box flex_box flex_boxed in
       link n _ _ _ _ _ (adds s.c0)
       (link n _ _ _ _ _ (adds s.k0)
-      (link n _ _ _ _ _ (order_undone n s.r0 fits.o0)
+      (link n _ _ _ _ _ (order_undone n s.order0 fits.o0)
       (link n _ _ _ _ _ sbox
-      (link n _ _ _ _ _ (order_undone n s.r1 fits.o1)
+      (link n _ _ _ _ _ (order_undone n s.order1 fits.o1)
       (link n _ _ _ _ _ (adds s.k1)
-      (link n _ _ _ _ _ (order_undone n s.r2 fits.o2)
+      (link n _ _ _ _ _ (order_undone n s.order2 fits.o2)
       (link n _ _ _ _ _ sbox
-      (link n _ _ _ _ _ (order_undone n s.r3 fits.o3)
+      (link n _ _ _ _ _ (order_undone n s.order3 fits.o3)
       (one n _ _ (xor_undone n s.k2 fits.small))))))))))
 
   pub cpa_comes : (f0 f1 f2 g0 g1 g2 : Kind) → Boxed f0 g0 → Boxed f1 g1 → Boxed f2 g2
@@ -122,12 +122,12 @@ module _ (s : Setting) (fits : Fits s) where
       let n = s.width in
       link n _ _ _ _ _ (adds s.c0)
       (link n _ _ _ _ _ (adds s.k0)
-      (link n _ _ _ _ _ (order_undone n s.r0 fits.o0)
+      (link n _ _ _ _ _ (order_undone n s.order0 fits.o0)
       (link n _ _ _ _ _ (boxes f0 g0 b0)
       (link n _ _ _ _ _ (adds s.k1)
-      (link n _ _ _ _ _ (order_undone n s.r1 fits.o1)
+      (link n _ _ _ _ _ (order_undone n s.order1 fits.o1)
       (link n _ _ _ _ _ (boxes f1 g1 b1)
       (link n _ _ _ _ _ (adds s.k2)
-      (link n _ _ _ _ _ (order_undone n s.r2 fits.o2)
+      (link n _ _ _ _ _ (order_undone n s.order2 fits.o2)
       (link n _ _ _ _ _ (boxes f2 g2 b2)
-      (one n _ _ (xor_undone n (moved s.r3 s.k2) (order_moved_below n s.r3 fits.o3 s.k2))))))))))))
+      (one n _ _ (xor_undone n (moved s.order3 s.k2) (order_moved_below n s.order3 fits.o3 s.k2))))))))))))

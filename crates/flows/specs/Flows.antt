@@ -9,10 +9,10 @@ use Rattle.boxes.specs.Layouts.{layout, widths}
 pub record Setting : Type 0 where
   pub width : ℕ
   pub c0 : ℕ
-  pub r0 : List ℕ
-  pub r1 : List ℕ
-  pub r2 : List ℕ
-  pub r3 : List ℕ
+  pub order0 : List ℕ
+  pub order1 : List ℕ
+  pub order2 : List ℕ
+  pub order3 : List ℕ
   pub k0 : ℕ
   pub k1 : ℕ
   pub k2 : ℕ
@@ -22,8 +22,8 @@ abbrev pub Kind : Type 0
 Kind = ℕ → ℕ → ℕ → ℕ
 
 -- A number of n bits sent through the boxes of its width.
-abbrev pub boxed : ℕ → Kind → ℕ → ℕ
-boxed n f x = layer f 0 (widths (layout n)) x
+abbrev pub through_boxes : ℕ → Kind → ℕ → ℕ
+through_boxes n f x = layer f 0 (widths (layout n)) x
 
 -- Flex.
 abbrev pub flex_encrypt : Setting → ℕ → ℕ
@@ -31,26 +31,26 @@ flex_encrypt s x =
     let n = s.width in
     let u = sum n x s.c0 in
     let v = sum n u s.k0 in
-    let w = moved s.r0 v in
-    let a = boxed n flex_box w in
-    let b = moved s.r1 a in
+    let w = moved s.order0 v in
+    let a = through_boxes n flex_box w in
+    let b = moved s.order1 a in
     let c = sum n b s.k1 in
-    let d = moved s.r2 c in
-    let e = boxed n flex_box d in
-    let f = moved s.r3 e in
+    let d = moved s.order2 c in
+    let e = through_boxes n flex_box d in
+    let f = moved s.order3 e in
     bit_xor f s.k2
 
 abbrev pub flex_decrypt : Setting → ℕ → ℕ
 flex_decrypt s y =
     let n = s.width in
     let f = bit_xor y s.k2 in
-    let e = gathered s.r3 f in
-    let d = boxed n flex_box e in
-    let c = gathered s.r2 d in
+    let e = gathered s.order3 f in
+    let d = through_boxes n flex_box e in
+    let c = gathered s.order2 d in
     let b = less n c s.k1 in
-    let a = gathered s.r1 b in
-    let w = boxed n flex_box a in
-    let v = gathered s.r0 w in
+    let a = gathered s.order1 b in
+    let w = through_boxes n flex_box a in
+    let v = gathered s.order0 w in
     let u = less n v s.k0 in
     less n u s.c0
 
@@ -61,29 +61,29 @@ cpa_encrypt s f0 f1 f2 x =
     let n = s.width in
     let u = sum n x s.c0 in
     let v = sum n u s.k0 in
-    let w = moved s.r0 v in
-    let a = boxed n f0 w in
+    let w = moved s.order0 v in
+    let a = through_boxes n f0 w in
     let b = sum n a s.k1 in
-    let c = moved s.r1 b in
-    let d = boxed n f1 c in
+    let c = moved s.order1 b in
+    let d = through_boxes n f1 c in
     let e = sum n d s.k2 in
-    let f = moved s.r2 e in
-    let g = boxed n f2 f in
-    let veil = moved s.r3 s.k2 in
+    let f = moved s.order2 e in
+    let g = through_boxes n f2 f in
+    let veil = moved s.order3 s.k2 in
     bit_xor g veil
 
 abbrev pub cpa_decrypt : Setting → (g0 g1 g2 : Kind) → ℕ → ℕ
 cpa_decrypt s g0 g1 g2 y =
     let n = s.width in
-    let veil = moved s.r3 s.k2 in
+    let veil = moved s.order3 s.k2 in
     let g = bit_xor y veil in
-    let f = boxed n g2 g in
-    let e = gathered s.r2 f in
+    let f = through_boxes n g2 g in
+    let e = gathered s.order2 f in
     let d = less n e s.k2 in
-    let c = boxed n g1 d in
-    let b = gathered s.r1 c in
+    let c = through_boxes n g1 d in
+    let b = gathered s.order1 c in
     let a = less n b s.k1 in
-    let w = boxed n g0 a in
-    let v = gathered s.r0 w in
+    let w = through_boxes n g0 a in
+    let v = gathered s.order0 w in
     let u = less n v s.k0 in
     less n u s.c0

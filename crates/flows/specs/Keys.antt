@@ -4,7 +4,7 @@ use Rattle.bits.specs.Bits.{bit}
 use Rattle.bits.specs.Orders.{moved}
 use Rattle.bits.specs.Words.{sum}
 use Rattle.boxes.specs.Boxes.{flex_box, cpa, cpa_back}
-use Rattle.flows.specs.Flows.{boxed, Kind}
+use Rattle.flows.specs.Flows.{through_boxes, Kind}
 use Rattle.flows.specs.Strings.{byte_bit, number_at}
 use Rattle.spelling.specs.declared.parts.Flow.{Flow}
 use Rattle.spelling.specs.declared.parts.Flow.TheVariants.{Flex, Cpa}
@@ -42,7 +42,7 @@ abbrev pub expanded : Parts → List ℕ → ℕ
 expanded p key =
     let u = sum 64 (number_at (byte_bit key) 0 64) p.c1 in
     let v = moved (order_of p 4 64) u in
-    let w = boxed 64 flex_box v in
+    let w = through_boxes 64 flex_box v in
     moved (order_of p 5 64) w
 
 -- What comes of it stands behind the 128 bits of the schedule key.

@@ -1,5 +1,5 @@
 -- The marked cases, one table, and what each says.
-use Rattle.std.specs.Prelude.{◌≡◌, ℕ, zero, suc, ◌+◌, ◌-◌, ◌*◌, ◌/◌, ◌%◌, true, false, List, [], ◌∷◌, ◌++◌, map, replicate}
+use Rattle.std.specs.Prelude.{◌≡◌, ℕ, zero, suc, ◌+◌, ◌-◌, ◌*◌, ◌/◌, ◌%◌, true, false, List, [], ◌∷◌, ◌++◌, map, replicate, nat_lt}
 use Rattle.boxes.specs.Boxes.{flex, cpa}
 use Rattle.boxes.specs.Layouts.{layout}
 use Rattle.bits.specs.Orders.{moved}
@@ -32,6 +32,10 @@ each_to_itself n = counted 0 n ++ replicate (64 - n) 0
 abbrev pub crossing : List ℕ
 crossing = map (λ i. 8 * (i % 8) + i / 8) (counted 0 64)
 
+-- The orders of 64 bits, which are zero where the width has no use for them.
+abbrev pub if_used : Plain → List ℕ
+if_used p = elim (nat_lt 32 p.width) [ true ↦ each_to_itself 64 | false ↦ replicate 64 0 ]
+
 abbrev pub plain_parts : Plain → Parts
 plain_parts p = record {
   width = p.width;
@@ -43,8 +47,8 @@ plain_parts p = record {
       ∷ (elim p.crossed [ true ↦ crossing | false ↦ each_to_itself p.width ])
       ∷ each_to_itself p.width
       ∷ each_to_itself p.width
-      ∷ each_to_itself 64
-      ∷ each_to_itself 64
+      ∷ if_used p
+      ∷ if_used p
       ∷ [];
 }
 

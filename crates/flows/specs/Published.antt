@@ -10,10 +10,10 @@ abbrev pub setting : Parts → List ℕ → Setting
 setting p key = record {
   width = p.width;
   c0 = p.c0;
-  r0 = order_of p 0 p.width;
-  r1 = order_of p 1 p.width;
-  r2 = order_of p 2 p.width;
-  r3 = order_of p 3 p.width;
+  order0 = order_of p 0 p.width;
+  order1 = order_of p 1 p.width;
+  order2 = order_of p 2 p.width;
+  order3 = order_of p 3 p.width;
   k0 = round_key p key 0;
   k1 = round_key p key 1;
   k2 = round_key p key 2;

@@ -5,7 +5,7 @@ use Rattle.bits.specs.Words.{sum, less}
 use Rattle.boxes.specs.Boxes.{flex_box}
 use Rattle.meanings.specs.Layers.{chained}
 use Rattle.meanings.specs.Meaning.{Meaning, Same, SameBack}
-use Rattle.flows.specs.Flows.{Setting, Kind, boxed}
+use Rattle.flows.specs.Flows.{Setting, Kind, through_boxes}
 
 -- A coding of all numbers of n bits.
 abbrev pub block : ℕ → (ℕ → ℕ) → (ℕ → ℕ) → Meaning
@@ -18,7 +18,7 @@ abbrev pub reordered : ℕ → List ℕ → Meaning
 reordered n r = block n (moved r) (gathered r)
 
 abbrev pub substituted : ℕ → Kind → Kind → Meaning
-substituted n f g = block n (boxed n f) (boxed n g)
+substituted n f g = block n (through_boxes n f) (through_boxes n g)
 
 abbrev pub masked : ℕ → ℕ → Meaning
 masked n k = block n (λ x. bit_xor x k) (λ y. bit_xor y k)
@@ -29,13 +29,13 @@ flex_steps s =
     let n = s.width in
     chained (added n s.c0) (
     chained (added n s.k0) (
-    chained (reordered n s.r0) (
+    chained (reordered n s.order0) (
     chained (substituted n flex_box flex_box) (
-    chained (reordered n s.r1) (
+    chained (reordered n s.order1) (
     chained (added n s.k1) (
-    chained (reordered n s.r2) (
+    chained (reordered n s.order2) (
     chained (substituted n flex_box flex_box) (
-    chained (reordered n s.r3) (masked n s.k2)))))))))
+    chained (reordered n s.order3) (masked n s.k2)))))))))
 
 -- CPA in eleven.
 abbrev pub cpa_steps : Setting → (f0 f1 f2 g0 g1 g2 : Kind) → Meaning
@@ -43,14 +43,14 @@ cpa_steps s f0 f1 f2 g0 g1 g2 =
     let n = s.width in
     chained (added n s.c0) (
     chained (added n s.k0) (
-    chained (reordered n s.r0) (
+    chained (reordered n s.order0) (
     chained (substituted n f0 g0) (
     chained (added n s.k1) (
-    chained (reordered n s.r1) (
+    chained (reordered n s.order1) (
     chained (substituted n f1 g1) (
     chained (added n s.k2) (
-    chained (reordered n s.r2) (
-    chained (substituted n f2 g2) (masked n (moved s.r3 s.k2)))))))))))
+    chained (reordered n s.order2) (
+    chained (substituted n f2 g2) (masked n (moved s.order3 s.k2)))))))))))
 
 -- Equal codings, which have equal ways back too.
 pub record Equal (a b : Meaning) : Type 0 where

@@ -16,7 +16,7 @@ const SEVEN: Shift = Shift { top: 7, k: 1 };
 
 const NARROWED: Rule = Rule::Narrowed(Shift { top: 7, k: 3 }, 4);
 
-const PLAIN_FLEX: Rule = Rule::Cipher(Plain {
+const FIRST_KEY_BYTE: Rule = Rule::Cipher(Plain {
     width: 25,
     flow: Flow::Flex,
     first: 1,
@@ -61,8 +61,8 @@ pub fn marked_cases() -> [Case; 27]
         boxes(59, 9, 14, 6),
         Case::Sends(Rule::ThreeTurned(24), 1, 2),
         Case::Sends(Rule::ThreeTurned(24), 4, 1),
-        Case::Sends(PLAIN_FLEX, 0, 1),
-        Case::Sends(PLAIN_FLEX, 33_554_431, 0),
+        Case::Sends(FIRST_KEY_BYTE, 0, 1),
+        Case::Sends(FIRST_KEY_BYTE, 33_554_431, 0),
         Case::Sends(PLAIN_CPA, 1, 9_586_998),
         Case::Sends(CROSSED, 0, 141),
         Case::Sends(CROSSED, 1, 140),

@@ -1,20 +1,19 @@
 -- A cipher made of a draft's orders, its round keys and its random parts is the published one.
-use Rattle.std.proofs.Common.{◌≡◌, ℕ, List, [], ◌∷◌, refl, ap}
+use Rattle.std.proofs.Common.{◌≡◌, ℕ, ◌^◌, ◌<◌, List, [], ◌∷◌, ap}
 use Rattle.flows.specs.Published.{setting, published}
 use Rattle.flows.specs.Steps.{Equal}
-use Rattle.flows.proofs.Ciphers.{cpa_is}
+use Rattle.flows.proofs.Ciphers.{cpa_is, round_key_below}
 use Rattle.keys.specs.Expanding.{Keyed, random_row, random_rows}
 use Rattle.keys.specs.declared.expand.RoundKeys.{RoundKeys}
 use Rattle.kcipher.specs.Ciphers.{cpa_means}
-use Rattle.kcipher.specs.Making.{with_keys}
 use Rattle.kcipher.specs.Settings.{numbers}
 use Rattle.kcipher.specs.declared.cpa.CpaFlow.{CpaFlow}
 use Rattle.spelling.specs.declared.parts.Flow.TheVariants.{Cpa as CpaVariant}
 use Rattle.spelling.specs.declared.parts.Parts.{Parts}
 use Rattle.spelling.specs.Sound.{SoundParts}
 
-pub keyed_setting : (p : Parts) (key : List ℕ) (k : RoundKeys) → Keyed p key k → with_keys p k ≡ setting p key
-keyed_setting p key k e = rw (e.0, e.1, e.2) refl
+pub keyed_small : (p : Parts) (key : List ℕ) (k : RoundKeys) → Keyed p key k → k.k2 < 2 ^ p.width
+keyed_small p key k e = rw e.2 (round_key_below p key 2)
 
 pub cpa_made : (p : Parts) (key : List ℕ) → SoundParts p → (f : CpaFlow) → numbers f.setting ≡ setting p key → p.flow ≡ CpaVariant
     → f.round0 ∷ (f.round1 ∷ (f.round2 ∷ [])) ≡ random_rows p key → Equal (cpa_means f) (published p key)

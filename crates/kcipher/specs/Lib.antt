@@ -2,3 +2,4 @@ pub mod Settings
 pub mod Rounds
 pub mod Ciphers
 pub mod Making
+pub mod Bytes

@@ -12,26 +12,26 @@ abbrev pub numbers : Setting → Numbers
 numbers s = record {
   width = s.width.bits;
   c0 = s.c0;
-  r0 = order s.r0;
-  r1 = order s.r1;
-  r2 = order s.r2;
-  r3 = order s.r3;
+  order0 = order s.order0;
+  order1 = order s.order1;
+  order2 = order s.order2;
+  order3 = order s.order3;
   k0 = s.k0;
   k1 = s.k1;
   k2 = s.k2;
 }
 
-sized : (w : Width) (o : Order) → o.size ≡ w → IsOrder w.bits (order o)
-sized w o e = subst (λ z. IsOrder z.bits (order o)) e (order_is o)
+sized : (w : Width) (o : Order) → o.size.bits ≡ w.bits → IsOrder w.bits (order o)
+sized w o e = subst (λ z. IsOrder z (order o)) e (order_is o)
 
 pub fits : (s : Setting) → Fits (numbers s)
 fits s =
     record {
       least = subst (λ z. 24 ≤ z) s.whole s.boxes.least;
       most = subst (λ z. z ≤ 64) s.whole s.boxes.fits;
-      o0 = sized s.width s.r0 s.sized0;
-      o1 = sized s.width s.r1 s.sized1;
-      o2 = sized s.width s.r2 s.sized2;
-      o3 = sized s.width s.r3 s.sized3;
+      o0 = sized s.width s.order0 s.sized0;
+      o1 = sized s.width s.order1 s.sized1;
+      o2 = sized s.width s.order2 s.sized2;
+      o3 = sized s.width s.order3 s.sized3;
       small = s.small;
     }

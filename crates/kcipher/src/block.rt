@@ -8,8 +8,7 @@ use bits::width::Width;
 use codings::coding::Coding;
 use codings::refusal::{AboveTop, at_most};
 
-// What maps the numbers of a width to themselves, one to one, and back. Of a number with more bits the lowest count, or nothing is
-// said.
+// What maps the numbers of a width to themselves, one to one, and back. What it makes of larger numbers says nothing.
 pub trait Map {
     ghost bits: { Self → ℕ };
 

@@ -2,6 +2,7 @@
 #![tactic(auto)]
 
 pub mod block;
+pub mod bytes;
 pub mod cipher;
 pub mod cpa;
 pub mod flex;

@@ -6,7 +6,7 @@ ghost use Rattle.flows.specs.Steps.{Equal};
 ghost use Rattle.keys.specs.Asking.{work_after};
 ghost use Rattle.keys.specs.Expanding.{Keyed};
 ghost use Rattle.kcipher.specs.Ciphers.{cipher_means};
-ghost use Rattle.kcipher.specs.Making.{Made, with_keys};
+ghost use Rattle.kcipher.specs.Making.{Made, OfDraft};
 ghost use Rattle.kcipher.specs.Settings.{numbers};
 
 use crate::block::Block;
@@ -14,12 +14,11 @@ use crate::cipher::KCipher;
 use crate::cpa::CpaFlow;
 use crate::flex::FlexFlow;
 use crate::setting::Setting;
-use bits::order::Order;
 use bits::width::Width;
 use boxes::row::Boxes;
 use draft::draft::Draft;
 use keys::expand::{RoundKeys, expand};
-use keys::orders::order_of;
+use keys::orders::Orders;
 use keys::random::random_parts;
 use keys::refusal::KeyRefusal;
 use spelling::parts::Flow;
@@ -37,31 +36,39 @@ pub fn make(draft: &Draft, key: &[u8], work: &mut [u8]) -> Result<KCipher, KeyRe
 // The cipher of these round keys.
 fn cipher_of(draft: &Draft, key: &[u8], keys: RoundKeys) -> KCipher
     requires keyed { Keyed draft.now.parts key.now keys }
-    ensures { Equal (cipher_means result) (published draft.now.parts key.now) }
+    ensures is { Equal (cipher_means result) (published draft.now.parts key.now) }
+    ensures of { OfDraft draft.now.parts key.now result }
 {
-    let setting = setting_of(draft, keys);
+    let setting = setting_of(draft, key, keys);
     match draft.parts().flow {
         Flow::Flex => KCipher::Flex(Block::new(FlexFlow::new(setting))),
         Flow::Cpa => KCipher::Cpa(Block::new(CpaFlow::new(setting, random_parts(draft, key)))),
     }
 }
 
-fn setting_of(draft: &Draft, keys: RoundKeys) -> Setting
-    requires small { keys.k2 < 2 ^ draft.now.parts.width }
-    ensures { numbers result ≡ with_keys draft.now.parts keys }
+// The key is there for the contract alone.
+fn setting_of(draft: &Draft, key: &[u8], keys: RoundKeys) -> Setting
+    requires keyed { Keyed draft.now.parts key.now keys }
+    ensures { numbers result ≡ setting draft.now.parts key.now }
 {
     let parts = draft.parts();
     let width = Width::new(parts.width.into()).unwrap();
     let boxes = Boxes::of_width(parts.width.into()).unwrap();
+    let Orders {
+        order0,
+        order1,
+        order2,
+        order3,
+    } = Orders::of_draft(draft);
     let RoundKeys { k0, k1, k2 } = keys;
     Setting {
         width,
         boxes,
         c0: parts.c0,
-        r0: order_of(width, parts.orders[0]),
-        r1: order_of(width, parts.orders[1]),
-        r2: order_of(width, parts.orders[2]),
-        r3: order_of(width, parts.orders[3]),
+        order0,
+        order1,
+        order2,
+        order3,
         k0,
         k1,
         k2,

@@ -19,18 +19,18 @@ pub struct Setting {
     pub(crate) width: Width,
     pub(crate) boxes: Boxes,
     pub(crate) c0: u64,
-    pub(crate) r0: Order,
-    pub(crate) r1: Order,
-    pub(crate) r2: Order,
-    pub(crate) r3: Order,
+    pub(crate) order0: Order,
+    pub(crate) order1: Order,
+    pub(crate) order2: Order,
+    pub(crate) order3: Order,
     pub(crate) k0: u64,
     pub(crate) k1: u64,
     pub(crate) k2: u64,
     ghost whole: { boxes.size ≡ width.bits },
-    ghost sized0: { r0.size ≡ width },
-    ghost sized1: { r1.size ≡ width },
-    ghost sized2: { r2.size ≡ width },
-    ghost sized3: { r3.size ≡ width },
+    ghost sized0: { order0.size.bits ≡ width.bits },
+    ghost sized1: { order1.size.bits ≡ width.bits },
+    ghost sized2: { order2.size.bits ≡ width.bits },
+    ghost sized3: { order3.size.bits ≡ width.bits },
     ghost small: { k2 < 2 ^ width.bits },
 }
 
@@ -43,7 +43,7 @@ impl Setting {
     }
 
     pub(crate) fn reorders(&self, by: Order) -> Block<Reordering>
-        requires sized { by.size ≡ self.now.width }
+        requires sized { by.size.bits ≡ self.now.width.bits }
         ensures { ⟦<Block<Reordering> as Coding>⟧.means result ≡ reordered self.now.width.bits (order by) }
     {
         Block::new(Reordering::new(by))

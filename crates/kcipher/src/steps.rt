@@ -6,7 +6,7 @@ ghost use Rattle.bits.specs.Orders.{moved, gathered};
 ghost use Rattle.bits.specs.Words.{sum, less};
 ghost use Rattle.boxes.specs.Boxes.{Boxed};
 ghost use Rattle.boxes.specs.Kinds.{sum_undone, xor_undone};
-ghost use Rattle.flows.specs.Flows.{boxed};
+ghost use Rattle.flows.specs.Flows.{through_boxes};
 ghost use Rattle.flows.proofs.Flows.{boxes_undone, order_undone, order_is};
 
 use crate::block::Map;
@@ -110,9 +110,9 @@ impl<K: Invertible + Copy> Substitution<K> {
 impl<K: Invertible + Copy> Map for Substitution<K> {
     ghost bits = { λ s. s.boxes.size };
 
-    ghost does = { λ s. boxed s.boxes.size (K.does s.kind) };
+    ghost does = { λ s. through_boxes s.boxes.size (K.does s.kind) };
 
-    ghost undoes = { λ s. boxed s.boxes.size (K.undoes s.kind) };
+    ghost undoes = { λ s. through_boxes s.boxes.size (K.undoes s.kind) };
 
     ghost undone = { λ s. boxes_undone s.boxes.size s.boxes.least s.boxes.fits (K.does s.kind) (K.undoes s.kind) s.inverts };
 

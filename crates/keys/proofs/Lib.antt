@@ -1,3 +1,4 @@
 pub mod Bytes
 pub mod Sure
 pub mod Scheduling
+pub mod Placing

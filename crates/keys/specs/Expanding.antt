@@ -1,8 +1,9 @@
 -- What an expansion answers, and what the random parts of CPA are.
-use Rattle.std.specs.Prelude.{◌≡◌, ℕ, ◌*◌, ◌<◌, List, [], ◌∷◌, Some, None, Result, MatchResult}
+use Rattle.std.specs.Prelude.{◌≡◌, ℕ, ◌+◌, ◌*◌, ◌<◌, ◌≤◌, List, [], ◌∷◌, Some, None, Result, MatchResult}
+use Rattle.boxes.specs.Boxes.{cut}
 use Rattle.boxes.specs.declared.kind.Cpa.{Cpa}
 use Rattle.spelling.specs.declared.parts.Parts.{Parts}
-use Rattle.flows.specs.Keys.{schedule, round_key, randomizer, first_row, second_row}
+use Rattle.flows.specs.Keys.{schedule, round_key, randomizer, first_row, second_row, first_part, second_part}
 use Rattle.flows.specs.Strings.{byte_bit}
 use Rattle.keys.specs.declared.expand.RoundKeys.{RoundKeys}
 use Rattle.keys.specs.declared.refusal.KeyRefusal.{KeyRefusal}
@@ -23,6 +24,11 @@ Scheduled p key bytes = (i : ℕ) → i < 3 * p.width → byte_bit bytes i ≡ s
 -- The random parts of a round's boxes, each at its own place.
 abbrev pub random_row : Parts → List ℕ → ℕ → Cpa
 random_row p key j = record { r0 = first_row p.width (randomizer p key) j; r1 = second_row p.width (randomizer p key) j }
+
+-- A box that stands on bits q and up, m of them, finds the two parts of the key's bits that are its own there.
+pub record Placed (p : Parts) (key : List ℕ) (j : ℕ) : Type 0 where
+  pub first : (q m : ℕ) → q + m ≤ p.width → cut (random_row p key j).r0 q m ≡ first_part p.width (randomizer p key) j q m
+  pub second : (q m : ℕ) → q + m ≤ p.width → cut (random_row p key j).r1 q m ≡ second_part p.width (randomizer p key) j q m
 
 abbrev pub random_rows : Parts → List ℕ → List Cpa
 random_rows p key = random_row p key 0 ∷ random_row p key 1 ∷ random_row p key 2 ∷ []

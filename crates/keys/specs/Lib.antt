@@ -1,3 +1,4 @@
 pub mod Refusal
 pub mod Asking
 pub mod Expanding
+pub mod Ordering

@@ -1,6 +1,6 @@
 // The random parts of CPA.
-ghost use Rattle.std.specs.Prelude.{◌≡◌, ◌<◌, ◌≤◌};
-ghost use Rattle.keys.specs.Expanding.{random_row, random_rows};
+ghost use Rattle.std.specs.Prelude.{◌≡◌, ℕ, ◌<◌, ◌≤◌};
+ghost use Rattle.keys.specs.Expanding.{random_row, random_rows, Placed};
 
 use crate::lengths::schedule_bits;
 use crate::strings::number_at;
@@ -9,7 +9,8 @@ use draft::draft::Draft;
 
 // Those of the three rounds, from the randomizer, which follows the schedule key.
 pub fn random_parts(draft: &Draft, key: &[u8]) -> [Cpa; 3]
-    ensures { result ≡ random_rows draft.now.parts key.now }
+    ensures rows { result ≡ random_rows draft.now.parts key.now }
+    ensures placed { (j : ℕ) → Placed draft.now.parts key.now j }
 {
     [
         round_parts(draft, key, 0),
