@@ -1,0 +1,3 @@
+pub mod Squeezed
+pub mod Reading
+pub mod Rowing

@@ -1,0 +1,176 @@
+-- What is read part by part is what the whole spells.
+use Rattle.std.proofs.Common.{◌≡◌, ℕ, zero, suc, ◌+◌, ◌<◌, ◌≤◌, Box, Bool, true, String, length, drop, get_or, map, List, [], ◌∷◌, ◌++◌, Some, None, Option, Ok, Err, Result, MatchResult, refl, ap, sym, subst, ◌∙◌, append_assoc, arith}
+use Rattle.std.proofs.lemmas.Option.{slice_get-map, slice_get_read}
+use Rattle.std.proofs.lemmas.Slice.Eq.{bytes_eq-Decides}
+use Rattle.std.specs.Option.{option_map}
+use Rattle.std.specs.Prelude.{slice_get, string_bytes}
+use Rattle.std.specs.Str.{bytes_eq}
+use Rattle.std.specs.declared.alloc.Global.{Global}
+use Rattle.jobs.specs.Heads.{ReadIf}
+use Rattle.jobs.specs.Places.{After, NumberRead, rest_of, InText, OnLine}
+use Rattle.jobs.specs.Signs.{squeezed}
+use Rattle.jobs.specs.Parsed.{Grown, Inside, Said, PileRead, InsideRead, NameRead, called, form_name, form_of}
+use Rattle.jobs.specs.Refused.{height}
+use Rattle.jobs.specs.declared.cursor.Cursor.{Cursor}
+use Rattle.jobs.specs.declared.cursor.Source.{Source}
+use Rattle.jobs.specs.declared.parse.Form.{Form}
+use Rattle.jobs.specs.declared.parse.Form.TheVariants as form
+use Rattle.jobs.specs.declared.place.BadText.{BadText}
+use Rattle.jobs.specs.declared.place.Place.{Place}
+use Rattle.jobs.specs.declared.written.Written.{Written, Chain, Turned, Narrowed}
+use Rattle.jobs.specs.declared.written.Written.TheVariants.{Clear, Plus, Cipher, Chain', Turned', Narrowed'}
+
+-- ---- texts one behind the other
+
+pub after_two : (c d e f : Cursor) (s t : List ℕ) → After c d s → After d e (44 ∷ []) → After e f t → After c f (s ++ (44 ∷ t))
+after_two c d e f s t p q r = record {
+  same = r.same ∙ q.same ∙ p.same;
+  text = p.text ∙ ap (λ z. s ++ z) (q.text ∙ ap (λ z. 44 ∷ z) r.text) ∙ sym (append_assoc s (44 ∷ t) (rest_of f));
+}
+
+bracketed : (word inside r : List ℕ) → word ++ (40 ∷ (inside ++ (41 ∷ r))) ≡ (word ++ (40 ∷ (inside ++ (41 ∷ [])))) ++ r
+bracketed word inside r =
+    ap (λ z. word ++ (40 ∷ z)) (sym (append_assoc inside (41 ∷ []) r)) ∙ sym (append_assoc word (40 ∷ (inside ++ (41 ∷ []))) r)
+
+after_brackets : (a b c d e f : Cursor) (word inside : List ℕ) → After a b [] → After b c word → After c d (40 ∷ []) → After d e inside → After e f (41 ∷ [])
+    → After a f (word ++ (40 ∷ (inside ++ (41 ∷ []))))
+after_brackets a b c d e f word inside p q r s t = record {
+  same = t.same ∙ s.same ∙ r.same ∙ q.same ∙ p.same;
+  text = p.text ∙ q.text ∙ ap (λ z. word ++ z) (r.text ∙ ap (λ z. 40 ∷ z) (s.text ∙ ap (λ z. inside ++ z) t.text)) ∙ bracketed word inside (rest_of f);
+}
+
+-- ---- lists of names that grow
+
+get_more : (xs more : List (List ℕ)) (i : ℕ) (a : List ℕ) → slice_get xs i ≡ Some a → slice_get (xs ++ more) i ≡ Some a
+get_more [] more i a h = cc
+get_more (x ∷ xs) more zero a h = h
+get_more (x ∷ xs) more (suc i) a h = get_more xs more i a h
+
+inside_more : (xs more : List (List ℕ)) (s : List ℕ) (w : Written) → Inside xs s w → Inside (xs ++ more) s w
+inside_more xs more s (Clear t) h = h
+inside_more xs more s (Plus t k) h = h
+inside_more xs more s (Cipher d k) (a, b, is, p, q) = (a, b, is, get_more xs more d a p, get_more xs more k b q)
+inside_more xs more s (Chain' x first y then) (a, b, is, p, q) = (a, b, is, inside_more xs more a first p, inside_more xs more b then q)
+inside_more xs more s (Turned' x below) (a, is, p) = (a, is, inside_more xs more a below p)
+inside_more xs more s (Narrowed' x below to) (a, b, is, p, q) = (a, b, is, inside_more xs more a below p, q)
+
+inside_grown : (xs ys : List (List ℕ)) (s : List ℕ) (w : Written) → Grown xs ys → Inside xs s w → Inside ys s w
+inside_grown xs ys s w g h = subst (λ z. Inside z s w) (sym g.is) (inside_more xs g.more s w h)
+
+pub grown_twice : (xs ys zs : List (List ℕ)) → Grown xs ys → Grown ys zs → Grown xs zs
+grown_twice xs ys zs g h = record { more = g.more ++ h.more; is = h.is ∙ ap (λ z. z ++ h.more) g.is ∙ append_assoc xs g.more h.more }
+
+-- ---- what stands in brackets
+
+pub clear_read : (c d : Cursor) (t : ℕ) → NumberRead c d t → (names : List (List ℕ)) → InsideRead names 1 form.Clear c d (Clear t)
+clear_read c d t h names = record { text = h.digits; after = h.after; named = refl; inside = h.number; low = omega arith }
+
+pub plus_read : (c d e f : Cursor) (t k : ℕ) → NumberRead c d t → After d e (44 ∷ []) → NumberRead e f k → (names : List (List ℕ))
+    → InsideRead names 1 form.Plus c f (Plus t k)
+plus_read c d e f t k h comma i names = record {
+  text = h.digits ++ (44 ∷ i.digits);
+  after = after_two c d e f h.digits i.digits h.after comma i.after;
+  named = refl;
+  inside = (h.digits, i.digits, refl, h.number, i.number);
+  low = omega arith;
+}
+
+pub cipher_read : (xs ys : List (List ℕ)) → Grown xs ys → (c d e f : Cursor) (i k : ℕ) → NameRead xs c d i → After d e (44 ∷ []) → NameRead ys e f k
+    → InsideRead ys 1 form.KCipher c f (Cipher i k)
+cipher_read xs ys g c d e f i k p comma q = record {
+  text = p.name ++ (44 ∷ q.name);
+  after = after_two c d e f p.name q.name p.after comma q.after;
+  named = refl;
+  inside = (p.name, q.name, refl, subst (λ z. slice_get z i ≡ Some p.name) (sym g.is) (get_more xs g.more i p.name p.named), q.named);
+  low = omega arith;
+}
+
+pub chain_read : (xs ys : List (List ℕ)) → Grown xs ys → (n : ℕ) (c d e f : Cursor) (a b : Written) (first then : Box Written Global)
+    → first.value ≡ a → then.value ≡ b → PileRead xs n c d a → After d e (44 ∷ []) → PileRead ys n e f b → InsideRead ys (n + 1) form.Chain c f (Chain first then)
+chain_read xs ys g n c d e f a b first then u v p comma q =
+    let p' : PileRead xs n c d first.value = subst (λ z. PileRead xs n c d z) (sym u) p in
+    let q' : PileRead ys n e f then.value = subst (λ z. PileRead ys n e f z) (sym v) q in
+    let low1 : height first.value ≤ n = p'.low in
+    let low2 : height then.value ≤ n = q'.low in
+    record {
+      text = p'.text ++ (44 ∷ q'.text);
+      after = after_two c d e f p'.text q'.text p'.after comma q'.after;
+      named = refl;
+      inside = (
+        p'.spelt.within,
+        q'.spelt.within,
+        ap (λ z. z ++ (44 ∷ q'.text)) p'.spelt.is ∙ ap (λ z. called (form_of first.value) p'.spelt.within ++ (44 ∷ z)) q'.spelt.is,
+        inside_grown xs ys _ first.value g p'.spelt.inside,
+        q'.spelt.inside,
+      );
+      low = omega (arith, low1, low2);
+    }
+
+pub turned_read : (xs : List (List ℕ)) (n : ℕ) (c d : Cursor) (a : Written) (below : Box Written Global) → below.value ≡ a → PileRead xs n c d a
+    → InsideRead xs (n + 1) form.Turned c d (Turned below)
+turned_read xs n c d a below u p =
+    let p' : PileRead xs n c d below.value = subst (λ z. PileRead xs n c d z) (sym u) p in
+    let low1 : height below.value ≤ n = p'.low in
+    record { text = p'.text; after = p'.after; named = refl; inside = (p'.spelt.within, p'.spelt.is, p'.spelt.inside); low = omega (arith, low1) }
+
+pub narrowed_read : (xs : List (List ℕ)) (n : ℕ) (c d e f : Cursor) (a : Written) (below : Box Written Global) (to : ℕ) → below.value ≡ a
+    → PileRead xs n c d a → After d e (44 ∷ []) → NumberRead e f to → InsideRead xs (n + 1) form.Narrowed c f (Narrowed below to)
+narrowed_read xs n c d e f a below to u p comma q =
+    let p' : PileRead xs n c d below.value = subst (λ z. PileRead xs n c d z) (sym u) p in
+    let low1 : height below.value ≤ n = p'.low in
+    record {
+      text = p'.text ++ (44 ∷ q.digits);
+      after = after_two c d e f p'.text q.digits p'.after comma q.after;
+      named = refl;
+      inside = (p'.spelt.within, q.digits, ap (λ z. z ++ (44 ∷ q.digits)) p'.spelt.is, p'.spelt.inside, q.number);
+      low = omega (arith, low1);
+    }
+
+-- ---- a pile
+
+pub pile_read : (xs : List (List ℕ)) (n m : ℕ) (g : Form) (word : List ℕ) (a b c d e f : Cursor) (w : Written) → After a b [] → After b c word → word ≡ form_name g
+    → After c d (40 ∷ []) → InsideRead xs m g d e w → m ≡ n → After e f (41 ∷ []) → PileRead xs n a f w
+pile_read xs n m g word a b c d e f w p q is r s same t =
+    let name : word ≡ form_name (form_of w) = is ∙ ap form_name (sym s.named) in
+    let here : List ℕ → Type 0 = λ z. After a f (z ++ (40 ∷ (s.text ++ (41 ∷ [])))) in
+    let low1 : height w ≤ m = s.low in
+    record {
+      text = called (form_of w) s.text;
+      after = subst here name (after_brackets a b c d e f word s.text p q r s.after t);
+      spelt = record { within = s.text; is = refl; inside = s.inside };
+      low = omega (arith, low1);
+    }
+
+-- ---- names in a list
+
+pub name_at : (v : List (String Global)) (i : ℕ) (s : String Global) (t name : List ℕ) (r : Bool) → i < length v → s ≡ get_or v i s → t ≡ string_bytes s
+    → r ≡ bytes_eq t name → r ≡ true → slice_get (map string_bytes v) i ≡ Some name
+name_at v i s t name r low is text same holds =
+    let equal : t ≡ name = (bytes_eq-Decides t name).0 (sym same ∙ holds) in
+    slice_get-map string_bytes v i ∙ ap (option_map string_bytes) (slice_get_read v (length v) i s refl low is) ∙ ap Some (sym text ∙ equal)
+
+-- ---- a text from its start
+
+pub from_start : (names : List (List ℕ)) (n : ℕ) (r : Result Written BadText) (c : Cursor) (s : Source) (text : List ℕ) (p : Place) → c.source ≡ s → c.at ≡ 0
+    → s.bytes.now ≡ text → s.start ≡ p → MatchResult r (λ w. Said names n (rest_of c) w) (λ e. InText c.source e)
+    → MatchResult r (λ w. Said names n (squeezed text) w) (λ e. OnLine p.line p.column (length text) e.place)
+from_start names n (Ok w) c s text p same at bytes start h =
+    let all : rest_of c ≡ squeezed text = ap (λ k. squeezed (drop k c.source.bytes.now)) at ∙ ap (λ z. squeezed z.bytes.now) same ∙ ap squeezed bytes in
+    subst (λ z. Said names n z w) all h
+from_start names n (Err e) c s text p same at bytes start h =
+    let line : c.source.start.line ≡ p.line = ap (λ z. z.start.line) same ∙ ap (λ z. z.line) start in
+    let column : c.source.start.column ≡ p.column = ap (λ z. z.start.column) same ∙ ap (λ z. z.column) start in
+    let long : length c.source.bytes.now ≡ length text = ap (λ z. length z.bytes.now) same ∙ ap length bytes in
+    record { same_line = h.same_line ∙ line; from = omega (arith, h.from); to = omega (arith, h.to) }
+
+-- ---- heads
+
+pub read_grown : (xs ys : List (List ℕ)) (o : Option Written) → Grown xs ys → ReadIf xs o → ReadIf ys o
+read_grown xs ys None g h = tt
+read_grown xs ys (Some w) g (s, said) = (
+  s,
+  record {
+    spelt = record { within = said.spelt.within; is = said.spelt.is; inside = inside_grown xs ys said.spelt.within w g said.spelt.inside };
+    low = said.low;
+  },
+)

@@ -1,0 +1,58 @@
+-- Texts without their spaces, a byte at a time.
+use Rattle.std.proofs.Common.{◌≡◌, ℕ, zero, suc, ◌+◌, ◌<◌, Bool, true, false, cond, ◌==◌, List, [], ◌∷◌, ◌++◌, length, take, drop, get_or, refl, ap, sym, ◌∙◌, add-zero, add-one, append_assoc, arith}
+use Rattle.std.proofs.Math.Seq.{drop-cons, take-suc, drop-length}
+use Rattle.std.proofs.lemmas.Bool.{eqb-true}
+use Rattle.std.proofs.lemmas.List.{get_or-drop}
+use Rattle.jobs.specs.Signs.{is_space, squeezed, code_of}
+use Rattle.jobs.specs.declared.place.Sign.{Sign}
+use Rattle.jobs.specs.declared.place.Sign.TheVariants.{Open, Comma, Close}
+
+squeezed_nil : squeezed [] ≡ []
+unfolding squeezed
+squeezed_nil = refl
+
+squeezed_cons : (b : ℕ) (bs : List ℕ) (v : Bool) → is_space b ≡ v → squeezed (b ∷ bs) ≡ cond v (squeezed bs) (b ∷ squeezed bs)
+unfolding squeezed
+squeezed_cons b bs v e = ap (λ z. cond z (squeezed bs) (b ∷ squeezed bs)) e
+
+-- Where text goes on at i it begins with the byte at i.
+from_next : (bs : List ℕ) (i : ℕ) → i < length bs → drop i bs ≡ get_or bs i 0 ∷ drop (i + 1) bs
+from_next bs i low = rw add-one (drop-cons bs i 0 low)
+
+-- a space at i
+pub past_space : (bs : List ℕ) (i : ℕ) → i < length bs → is_space (get_or bs i 0) ≡ true → squeezed (drop (i + 1) bs) ≡ squeezed (drop i bs)
+past_space bs i low e = sym (ap squeezed (from_next bs i low) ∙ squeezed_cons (get_or bs i 0) (drop (i + 1) bs) true e)
+
+-- no space at i
+pub past_other : (bs : List ℕ) (i : ℕ) → i < length bs → is_space (get_or bs i 0) ≡ false → squeezed (drop i bs) ≡ get_or bs i 0 ∷ squeezed (drop (i + 1) bs)
+past_other bs i low e = ap squeezed (from_next bs i low) ∙ squeezed_cons (get_or bs i 0) (drop (i + 1) bs) false e
+
+pub past_word : (bs : List ℕ) (i : ℕ) → i < length bs → is_space (get_or bs i 0) ≡ false → squeezed bs ≡ take i bs ++ squeezed (drop i bs)
+    → squeezed bs ≡ take (i + 1) bs ++ squeezed (drop (i + 1) bs)
+past_word bs i low e h =
+    let next : take (i + 1) bs ≡ take i bs ++ (get_or bs i 0 ∷ []) = rw add-one (take-suc bs i 0 low) in
+    h ∙ ap (λ z. take i bs ++ z) (past_other bs i low e)
+    ∙ sym (append_assoc (take i bs) (get_or bs i 0 ∷ []) (squeezed (drop (i + 1) bs)))
+    ∙ ap (λ z. z ++ squeezed (drop (i + 1) bs)) (sym next)
+
+-- a word ends at every space
+pub no_space : (v r : Bool) → (v ≡ true → r ≡ true) → r ≡ false → v ≡ false
+no_space true r h e = let t = h refl in cc
+no_space false r h e = refl
+
+sign_stays : (s : Sign) → is_space (code_of s) ≡ false
+sign_stays Open = refl
+sign_stays Comma = refl
+sign_stays Close = refl
+
+pub past_sign_at : (bs : List ℕ) (i : ℕ) (s : Sign) → i < length bs → get_or (drop i bs) 0 0 ≡ code_of s → squeezed (drop i bs) ≡ code_of s ∷ squeezed (drop (i + 1) bs)
+past_sign_at bs i s low e =
+    let here : get_or bs i 0 ≡ code_of s = sym (rw add-zero at (get_or-drop i bs 0 0)) ∙ e in
+    past_other bs i low (ap is_space here ∙ sign_stays s) ∙ ap (λ z. z ∷ squeezed (drop (i + 1) bs)) here
+
+pub at_the_end : (bs : List ℕ) (i : ℕ) → (i == length bs) ≡ true → squeezed (drop i bs) ≡ []
+at_the_end bs i e = ap (λ k. squeezed (drop k bs)) (eqb-true i (length bs) e) ∙ ap squeezed (drop-length bs) ∙ squeezed_nil
+
+pub filled : (n : ℕ) → (n == 0) ≡ false → 0 < n
+filled zero e = cc
+filled (suc n) e = omega arith

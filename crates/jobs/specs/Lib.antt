@@ -1,0 +1,11 @@
+pub mod Leaves
+pub mod Long
+pub mod Written
+pub mod Refused
+pub mod Building
+pub mod Signs
+pub mod Places
+pub mod Parsed
+pub mod Rows
+pub mod Steps
+pub mod Heads

@@ -1,0 +1,46 @@
+-- Places in a text.
+use Rattle.std.specs.Prelude.{◌≡◌, ℕ, ◌+◌, ◌≤◌, List, ◌++◌, length, drop}
+use Rattle.jobs.specs.Signs.{squeezed, Numeral}
+use Rattle.jobs.specs.declared.cursor.Cursor.{Cursor}
+use Rattle.jobs.specs.declared.cursor.Source.{Source}
+use Rattle.jobs.specs.declared.place.BadText.{BadText}
+use Rattle.jobs.specs.declared.place.Place.{Place}
+
+-- A place on a line, from a column to the end of so many bytes that start there.
+pub record OnLine (line column size : ℕ) (p : Place) : Type 0 where
+  pub same_line : p.line ≡ line
+  pub from : column ≤ p.column
+  pub to : p.column ≤ column + size
+
+abbrev pub Within : Source → Place → Type 0
+Within s p = OnLine s.start.line s.start.column (length s.bytes.now) p
+
+abbrev pub InText : Source → BadText → Type 0
+InText s e = Within s e.place
+
+-- What is left of the text, without its spaces.
+abbrev pub rest_of : Cursor → List ℕ
+rest_of c = squeezed (drop c.at c.source.bytes.now)
+
+-- A later place of the same text; between the two stands s, with spaces.
+pub record After (c d : Cursor) (s : List ℕ) : Type 0 where
+  pub same : d.source ≡ c.source
+  pub text : rest_of c ≡ s ++ rest_of d
+
+-- A number stands between the two.
+pub record NumberRead (c d : Cursor) (n : ℕ) : Type 0 where
+  pub digits : List ℕ
+  pub after : After c d digits
+  pub number : Numeral digits n
+
+-- Lines and columns count from 1.
+pub record Counted (p : Place) : Type 0 where
+  pub line : 1 ≤ p.line
+  pub column : 1 ≤ p.column
+
+-- A whole line of this number, between whose ends stand these places of a text.
+pub record IsOn (line : List ℕ) (number : ℕ) (c d : Cursor) : Type 0 where
+  pub bytes : c.source.bytes.now ≡ line
+  pub on : c.source.start.line ≡ number
+  pub from : c.source.start.column ≡ 1
+  pub same : d.source ≡ c.source

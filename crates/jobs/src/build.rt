@@ -1,0 +1,79 @@
+// Building the pile that is written.
+ghost use Rattle.std.specs.Prelude.{◌≡◌, MatchResult, MatchOption};
+ghost use Rattle.jobs.specs.Building.{Answers};
+ghost use Rattle.jobs.specs.Leaves.{leaf_means};
+ghost use Rattle.jobs.specs.Refused.{PlusRefused, CipherRefused};
+ghost use Rattle.jobs.specs.Written.{bytes_at, IsPlus, IsCipherOf};
+ghost use Rattle.spelling.specs.Spelling.{Spells, FirstNo};
+ghost use Rattle.spelling.specs.declared.fault.Fault.{Fault};
+
+use crate::built::Built;
+use crate::leaf::Leaf;
+use crate::unbuilt::Unbuilt;
+use crate::written::Written;
+use codings::clear::Clear;
+use codings::plus::Plus;
+use draft::draft::Draft;
+use draft::read::read;
+use kcipher::make::make;
+use std::alloc::Global;
+
+// The pile that is written, over these files, or what refuses it.
+pub fn build(heap: Global, written: &Written, files: &[Vec<u8>]) -> Result<Built, Unbuilt>
+    ensures { Answers files.now written.now result }
+{
+    let built = match written {
+        Written::Clear(top) => Built::leaf(Leaf::Clear(Clear::new(*top))),
+        Written::Plus(top, k) => Built::leaf(plus(*top, *k)?),
+        Written::Cipher(draft, key) => Built::leaf(cipher(files, *draft, *key)?),
+        Written::Chain(first, then) => {
+            let first = build(heap, first, files)?;
+            first.chain(heap, build(heap, then, files)?)?
+        }
+        Written::Turned(below) => build(heap, below, files)?.turned(heap)?,
+        Written::Narrowed(below, to) => build(heap, below, files)?.narrowed(heap, *to)?,
+    };
+    Ok(built)
+}
+
+fn plus(top: u64, k: u64) -> Result<Leaf, Unbuilt>
+    ensures { MatchResult result (λ l. IsPlus top k (leaf_means l)) (λ e. PlusRefused top k e) }
+{
+    match Plus::new(top, k) {
+        Ok(coding) => Ok(Leaf::Plus(coding)),
+        Err(_) => Err(Unbuilt::AboveTop),
+    }
+}
+
+// The cipher of two files.
+fn cipher(files: &[Vec<u8>], draft: usize, key: usize) -> Result<Leaf, Unbuilt>
+    ensures { MatchResult result (λ l. IsCipherOf files.now draft key (leaf_means l)) (λ e. CipherRefused files.now draft key e) }
+{
+    let draft_bytes = file(files, draft)?;
+    let key_bytes = file(files, key)?;
+    let draft = draft_of(draft_bytes, draft)?;
+    let mut work = [0; 24];
+    match make(&draft, key_bytes, &mut work) {
+        Ok(coding) => Ok(Leaf::Cipher(coding)),
+        Err(refusal) => Err(Unbuilt::Key(key, refusal)),
+    }
+}
+
+fn draft_of(bytes: &[u8], place: usize) -> Result<Draft, Unbuilt>
+    ensures { MatchResult result (λ d. Spells bytes.now d.parts) (λ e. (fault : Fault) × (e ≡ Unbuilt.Draft place fault) × FirstNo bytes.now fault) }
+{
+    match read(bytes) {
+        Ok(draft) => Ok(draft),
+        Err(fault) => Err(Unbuilt::Draft(place, fault)),
+    }
+}
+
+// The bytes of a file.
+fn file<'a>(files: &'a [Vec<u8>], place: usize) -> Result<&'a [u8], Unbuilt>
+    ensures { MatchResult result (λ bytes. bytes_at files.now place ≡ Some bytes.now) (λ e. (e ≡ Unbuilt.NoFile place) × (bytes_at files.now place ≡ None)) }
+{
+    match files.get(place) {
+        Some(bytes) => Ok(bytes),
+        None => Err(Unbuilt::NoFile(place)),
+    }
+}

@@ -1,0 +1,246 @@
+// Going over a text.
+ghost use Rattle.std.specs.Prelude.{◌≡◌, ◌≤◌, ◌++◌, length, take, drop, IsTrue, IfSome};
+ghost use Rattle.jobs.specs.Signs.{is_space, squeezed, code_of, Numeral};
+
+use crate::place::{BadText, Place, Sign, Wrong};
+use std::str;
+
+// A text, and where in a file it starts.
+#[derive(Clone, Copy)]
+pub(crate) struct Source<'a> {
+    pub(crate) bytes: &'a [u8],
+    pub(crate) start: Place,
+}
+
+// A place in a text.
+#[derive(Clone, Copy)]
+pub(crate) struct Cursor<'a> {
+    source: Source<'a>,
+    at: usize,
+    ghost within: { at ≤ length source.bytes.now },
+}
+
+fn is_space(byte: u8) -> bool
+    ensures { result ≡ is_space byte }
+{
+    byte == b' ' || byte == b'\t'
+}
+
+// What ends a word: a space or a sign.
+fn ends_word(byte: u8) -> bool
+    ensures { IsTrue (is_space byte) → IsTrue result }
+{
+    is_space(byte) || matches!(byte, b'(' | b',' | b')')
+}
+
+// How many spaces come first.
+fn count_spaces(bytes: &[u8]) -> usize
+    ensures within { result ≤ length bytes.now }
+    ensures blank { squeezed (drop result bytes.now) ≡ squeezed bytes.now }
+{
+    for (i, byte) in bytes.iter().enumerate() {
+        if !is_space(*byte) {
+            return i;
+        }
+    }
+    bytes.len()
+}
+
+// How many bytes the word has that comes first.
+fn count_word(bytes: &[u8]) -> usize
+    ensures within { result ≤ length bytes.now }
+    ensures first { squeezed bytes.now ≡ take result bytes.now ++ squeezed (drop result bytes.now) }
+{
+    for (i, byte) in bytes.iter().enumerate() {
+        if ends_word(*byte) {
+            return i;
+        }
+    }
+    bytes.len()
+}
+
+impl Sign {
+    fn byte(self) -> u8
+        ensures { result ≡ code_of self }
+    {
+        match self {
+            Sign::Open => b'(',
+            Sign::Comma => b',',
+            Sign::Close => b')',
+        }
+    }
+}
+
+impl<'a> Source<'a> {
+    pub(crate) fn new(text: &'a str, start: Place) -> Source<'a>
+        ensures bytes { result.bytes.now ≡ text.now }
+        ensures start { result.start ≡ start }
+    {
+        Source {
+            bytes: text.as_bytes(),
+            start,
+        }
+    }
+}
+
+impl<'a> Cursor<'a> {
+    ghost use Rattle.std.specs.Prelude.{◌+◌, ◌==◌, [], ◌∷◌, MatchResult};
+    ghost use Rattle.jobs.specs.Places.{Within, InText, After, NumberRead, rest_of};
+
+    pub(crate) fn new(source: Source<'a>) -> Cursor<'a>
+        ensures source { result.source ≡ source.entry }
+        ensures at { result.at ≡ 0 }
+    {
+        Cursor { source, at: 0 }
+    }
+
+    pub(crate) fn place(self) -> Place
+        ensures { Within self.entry.source result }
+    {
+        Place {
+            line: self.source.start.line,
+            column: self.source.start.column.saturating_add(self.at),
+        }
+    }
+
+    pub(crate) fn bad(self, wrong: Wrong) -> BadText
+        ensures place { InText self.entry.source result }
+        ensures wrong { result.wrong ≡ wrong }
+    {
+        BadText {
+            place: self.place(),
+            wrong,
+        }
+    }
+
+    // What is there, or what is wrong here.
+    pub(crate) fn given<T: Drop>(self, found: Option<T>, wrong: Wrong) -> Result<T, BadText>
+        ensures { MatchResult result (λ x. found ≡ Some x) (λ e. InText self.entry.source e) }
+    {
+        match found {
+            Some(x) => Ok(x),
+            None => Err(self.bad(wrong)),
+        }
+    }
+
+    fn rest(self) -> &'a [u8]
+        ensures bytes { result.now ≡ drop self.entry.at self.entry.source.bytes.now }
+        ensures long { length result.now + self.entry.at ≡ length self.entry.source.bytes.now }
+    {
+        &self.source.bytes[self.at..]
+    }
+
+    // So many bytes on.
+    fn past(self, count: usize) -> Cursor<'a>
+        requires { count + self.at ≤ length self.source.bytes.now }
+        ensures same { result.source ≡ self.entry.source }
+        ensures at { result.at ≡ self.entry.at + count }
+    {
+        Cursor {
+            source: self.source,
+            at: self.at + count,
+        }
+    }
+
+    pub(crate) fn past_spaces(self) -> Cursor<'a>
+        ensures { After self.entry result [] }
+    {
+        self.past(count_spaces(self.rest()))
+    }
+
+    pub(crate) fn is_end(self) -> bool
+        ensures { result ≡ (self.entry.at == length self.entry.source.bytes.now) }
+    {
+        self.at == self.source.bytes.len()
+    }
+
+    // The word that starts here, which may be empty, and where it ends.
+    pub(crate) fn word(self) -> (&'a [u8], Cursor<'a>)
+        ensures { After self.entry result.1 result.0.now }
+    {
+        let rest = self.rest();
+        let count = count_word(rest);
+        (&rest[..count], self.past(count))
+    }
+
+    // The next byte, which is this sign.
+    fn past_byte(self, sign: Sign) -> Result<Cursor<'a>, BadText>
+        ensures { MatchResult result (λ c. After self.entry c (code_of sign ∷ [])) (λ e. InText self.entry.source e) }
+    {
+        let rest = self.rest();
+        if !rest.is_empty() && rest[0] == sign.byte() {
+            Ok(self.past(1))
+        } else {
+            Err(self.bad(Wrong::MissingSign(sign)))
+        }
+    }
+
+    // Past spaces and this sign.
+    pub(crate) fn past_sign(self, sign: Sign) -> Result<Cursor<'a>, BadText>
+        ensures { MatchResult result (λ c. After self.entry c (code_of sign ∷ [])) (λ e. InText self.entry.source e) }
+    {
+        self.past_spaces().past_byte(sign)
+    }
+
+    // Nothing but spaces follows.
+    pub(crate) fn finish(self) -> Result<(), BadText>
+        ensures { MatchResult result (λ _. rest_of self.entry ≡ []) (λ e. InText self.entry.source e) }
+    {
+        let here = self.past_spaces();
+        if here.is_end() {
+            Ok(())
+        } else {
+            Err(here.bad(Wrong::GoesOn))
+        }
+    }
+
+    // A number after spaces.
+    pub(crate) fn number(self) -> Result<(u64, Cursor<'a>), BadText>
+        ensures { MatchResult result (λ r. NumberRead self.entry r.1 r.0) (λ e. InText self.entry.source e) }
+    {
+        let here = self.past_spaces();
+        let (word, after) = here.word();
+        let number = here.given(number_in(word), Wrong::NoNumber)?;
+        Ok((number, after))
+    }
+
+    // A number after spaces that counts something.
+    pub(crate) fn count(self) -> Result<(usize, Cursor<'a>), BadText>
+        ensures { MatchResult result (λ r. NumberRead self.entry r.1 r.0) (λ e. InText self.entry.source e) }
+    {
+        let (number, after) = self.number()?;
+        Ok((number as usize, after))
+    }
+
+    // A name after spaces.
+    pub(crate) fn name(self) -> Result<(&'a str, Cursor<'a>), BadText>
+        ensures { MatchResult result (λ r. After self.entry r.1 r.0.now) (λ e. InText self.entry.source e) }
+    {
+        let here = self.past_spaces();
+        let (word, after) = here.word();
+        let name = here.given(name_in(word), Wrong::NoName)?;
+        Ok((name, after))
+    }
+}
+
+// The number of a word that is all digits.
+fn number_in(word: &[u8]) -> Option<u64>
+    ensures { IfSome result (λ n. Numeral word.now n) }
+{
+    // Where `parse` also takes a plus first, nothing but digits is a number here.
+    if !word.is_empty() && word[0] == b'+' {
+        None
+    } else {
+        str::from_utf8(word).ok()?.parse().ok()
+    }
+}
+
+fn name_in(word: &[u8]) -> Option<&str>
+    ensures { IfSome result (λ name. name.now ≡ word.now) }
+{
+    if word.is_empty() {
+        None
+    } else {
+        str::from_utf8(word).ok()
+    }
+}

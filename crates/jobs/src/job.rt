@@ -1,0 +1,290 @@
+// Reading a job: its head, and then its steps, a line each.
+ghost use Rattle.std.specs.Prelude.{◌≡◌, length, IfErr, IfSome, MatchResult, MatchOption};
+ghost use Rattle.jobs.specs.Heads.{Whole};
+ghost use Rattle.jobs.specs.Places.{OnLine, InText, Counted, rest_of};
+ghost use Rattle.jobs.specs.Signs.{squeezed, Numeral};
+ghost use Rattle.jobs.specs.Steps.{IsBlank, WordRead, Says, Operands, IsEntry, word_text, word_of};
+
+use crate::cursor::{Cursor, Source};
+use crate::parse::whole;
+use crate::place::{BadText, HeadWord, Place, Wrong};
+use crate::written::Written;
+use book::entry::Entry;
+use std::alloc::Global;
+
+// What a job says of its release before the first step.
+#[derive(Drop)]
+pub struct Head {
+    pub yarn: Written,
+    pub hands: Written,
+    // The files of both piles.
+    pub files: Vec<String>,
+    pub roles: Vec<char>,
+    pub records: usize,
+    // How many lines the head has; the steps stand on those after them.
+    pub lines: usize,
+}
+
+#[derive(Clone, Copy, PartialEq, Eq, Debug)]
+pub enum Step<'a> {
+    // rows FILE
+    Rows(&'a str),
+    // withdraw ROW
+    Withdraw(usize),
+    // show ROW COLUMN
+    Show(Entry),
+    // turnback ROW COLUMN
+    TurnBack(Entry),
+    // tally
+    Tally,
+    // draft FILE
+    Draft(&'a str),
+    // sheet FILE
+    Sheet(&'a str),
+}
+
+#[derive(Clone, Copy)]
+enum StepWord {
+    Rows,
+    Withdraw,
+    Show,
+    TurnBack,
+    Tally,
+    Draft,
+    Sheet,
+}
+
+#[derive(Clone, Copy)]
+enum LineWord {
+    Head(HeadWord),
+    Step(StepWord),
+}
+
+// A line with a word, and where the word starts and ends.
+#[derive(Clone, Copy)]
+struct WordLine<'a> {
+    word: LineWord,
+    here: Cursor<'a>,
+    after: Cursor<'a>,
+}
+
+fn word_of(word: &[u8]) -> Option<LineWord>
+    ensures { IfSome result (λ w. word.now ≡ word_text w) }
+{
+    match word {
+        b"yarn" => Some(LineWord::Head(HeadWord::Yarn)),
+        b"hands" => Some(LineWord::Head(HeadWord::Hands)),
+        b"roles" => Some(LineWord::Head(HeadWord::Roles)),
+        b"records" => Some(LineWord::Head(HeadWord::Records)),
+        b"rows" => Some(LineWord::Step(StepWord::Rows)),
+        b"withdraw" => Some(LineWord::Step(StepWord::Withdraw)),
+        b"show" => Some(LineWord::Step(StepWord::Show)),
+        b"turnback" => Some(LineWord::Step(StepWord::TurnBack)),
+        b"tally" => Some(LineWord::Step(StepWord::Tally)),
+        b"draft" => Some(LineWord::Step(StepWord::Draft)),
+        b"sheet" => Some(LineWord::Step(StepWord::Sheet)),
+        _ => None,
+    }
+}
+
+// The word of a line, or None where the line is empty or a comment.
+fn word_line(line: &str, number: usize) -> Result<Option<WordLine<'_>>, BadText>
+    ensures { MatchResult result (λ l. MatchOption l (IsBlank (squeezed line.now)) (λ w. WordRead line.now number w)) (λ e. OnLine number 1 (length line.now) e.place) }
+{
+    let start = Place {
+        line: number,
+        column: 1,
+    };
+    let here = Cursor::new(Source::new(line, start)).past_spaces();
+    let (word, after) = here.word();
+    if here.is_end() {
+        return Ok(None);
+    }
+    if !word.is_empty() && word[0] == b'#' {
+        return Ok(None);
+    }
+    let word = here.given(word_of(word), Wrong::UnknownWord)?;
+    Ok(Some(WordLine { word, here, after }))
+}
+
+// The step on a line of this number, or None where the line is empty or a comment. A line of the head is refused: it belongs
+// before the first step.
+pub fn read_step(line: &str, number: usize) -> Result<Option<Step<'_>>, BadText>
+    ensures { MatchResult result (λ step. Says (squeezed line.now) step) (λ e. OnLine number 1 (length line.now) e.place) }
+{
+    let Some(found) = word_line(line, number)? else {
+        return Ok(None);
+    };
+    match found.word {
+        LineWord::Head(_) => Err(found.here.bad(Wrong::LateHead)),
+        LineWord::Step(word) => Ok(Some(step_of(word, found.after)?)),
+    }
+}
+
+// The step of this word, whose operands stand after it.
+fn step_of(word: StepWord, after: Cursor<'_>) -> Result<Step<'_>, BadText>
+    ensures { MatchResult result (λ step. (word_of step ≡ word) × Operands (rest_of after.entry) step) (λ e. InText after.entry.source e) }
+{
+    match word {
+        StepWord::Rows => Ok(Step::Rows(file_of(after)?)),
+        StepWord::Withdraw => Ok(Step::Withdraw(row_of(after)?)),
+        StepWord::Show => Ok(Step::Show(entry_of(after)?)),
+        StepWord::TurnBack => Ok(Step::TurnBack(entry_of(after)?)),
+        StepWord::Tally => {
+            after.finish()?;
+            Ok(Step::Tally)
+        }
+        StepWord::Draft => Ok(Step::Draft(file_of(after)?)),
+        StepWord::Sheet => Ok(Step::Sheet(file_of(after)?)),
+    }
+}
+
+fn file_of(after: Cursor<'_>) -> Result<&str, BadText>
+    ensures { MatchResult result (λ name. rest_of after.entry ≡ name.now) (λ e. InText after.entry.source e) }
+{
+    let (name, after) = after.name()?;
+    after.finish()?;
+    Ok(name)
+}
+
+fn row_of(after: Cursor<'_>) -> Result<usize, BadText>
+    ensures { MatchResult result (λ row. Numeral (rest_of after.entry) row) (λ e. InText after.entry.source e) }
+{
+    let (row, after) = after.count()?;
+    after.finish()?;
+    Ok(row)
+}
+
+fn entry_of(after: Cursor<'_>) -> Result<Entry, BadText>
+    ensures { MatchResult result (λ entry. IsEntry (rest_of after.entry) entry) (λ e. InText after.entry.source e) }
+{
+    let (row, after) = after.count()?;
+    let (column, after) = after.count()?;
+    after.finish()?;
+    Ok(Entry { row, column })
+}
+
+// What was found of a head so far.
+#[derive(Drop)]
+struct Found {
+    yarn: Option<Written>,
+    hands: Option<Written>,
+    files: Vec<String>,
+    roles: Option<Vec<char>>,
+    records: Option<usize>,
+}
+
+impl Found {
+    ghost use Rattle.jobs.specs.Heads.{Good};
+
+    fn nothing(heap: Global) -> Found
+        ensures { Good result }
+    {
+        Found {
+            yarn: None,
+            hands: None,
+            files: Vec::new(heap),
+            roles: None,
+            records: None,
+        }
+    }
+
+    fn has(&self, word: HeadWord) -> bool {
+        match word {
+            HeadWord::Yarn => self.yarn.is_some(),
+            HeadWord::Hands => self.hands.is_some(),
+            HeadWord::Roles => self.roles.is_some(),
+            HeadWord::Records => self.records.is_some(),
+        }
+    }
+
+    // A line of the head, whose operand stands after its word.
+    fn put(
+        &mut self,
+        heap: Global,
+        word: HeadWord,
+        here: Cursor<'_>,
+        after: Cursor<'_>,
+    ) -> Result<(), BadText>
+        requires same { after.source ≡ here.source }
+        requires good { Good self.old }
+        ensures { MatchResult result (λ _. Good self.new) (λ e. InText here.entry.source e) }
+    {
+        if self.has(word) {
+            return Err(here.bad(Wrong::TwiceGiven));
+        }
+        match word {
+            HeadWord::Yarn => self.yarn = Some(whole(heap, after, &mut self.files)?),
+            HeadWord::Hands => self.hands = Some(whole(heap, after, &mut self.files)?),
+            HeadWord::Roles => self.roles = Some(letters(heap, after)?),
+            HeadWord::Records => self.records = Some(row_of(after)?),
+        }
+        Ok(())
+    }
+
+    // The head, if it ends at this line.
+    fn head(self, lines: usize) -> Result<Head, BadText>
+        requires { Good self }
+        ensures { MatchResult result (λ head. Whole head) (λ e. Counted e.place) }
+    {
+        let Found {
+            yarn,
+            hands,
+            files,
+            roles,
+            records,
+        } = self;
+        Ok(Head {
+            yarn: needed(yarn, HeadWord::Yarn, lines)?,
+            hands: needed(hands, HeadWord::Hands, lines)?,
+            files,
+            roles: needed(roles, HeadWord::Roles, lines)?,
+            records: needed(records, HeadWord::Records, lines)?,
+            lines,
+        })
+    }
+}
+
+// What a head of so many lines needs.
+fn needed<T: Drop>(found: Option<T>, word: HeadWord, lines: usize) -> Result<T, BadText>
+    ensures { MatchResult result (λ x. found ≡ Some x) (λ e. Counted e.place) }
+{
+    match found {
+        Some(x) => Ok(x),
+        None => Err(BadText {
+            place: Place {
+                line: lines.saturating_add(1),
+                column: 1,
+            },
+            wrong: Wrong::MissingLine(word),
+        }),
+    }
+}
+
+fn letters(heap: Global, after: Cursor<'_>) -> Result<Vec<char>, BadText>
+    ensures { IfErr result (λ e. InText after.entry.source e) }
+{
+    let letters = file_of(after)?;
+    match letters.chars().collect(heap) {
+        Ok(letters) => Ok(letters),
+        Err(_) => Err(after.bad(Wrong::NoMemory)),
+    }
+}
+
+// The head of a job: every line before the first step, each once and in any order.
+pub fn read_head(heap: Global, text: &str) -> Result<Head, BadText>
+    ensures { MatchResult result (λ head. Whole head) (λ e. Counted e.place) }
+{
+    let mut found = Found::nothing(heap);
+    let mut lines: usize = 0;
+    for line in text.lines() {
+        if let Some(next) = word_line(line, lines.saturating_add(1))? {
+            match next.word {
+                LineWord::Head(word) => found.put(heap, word, next.here, next.after)?,
+                LineWord::Step(_) => break,
+            }
+        }
+        lines = lines.saturating_add(1);
+    }
+    found.head(lines)
+}

@@ -1,0 +1,45 @@
+// Reading a row of a table: numbers with commas between them.
+ghost use Rattle.std.specs.Prelude.{◌≡◌, length, MatchResult};
+ghost use Rattle.jobs.specs.Places.{OnLine, InText};
+ghost use Rattle.jobs.specs.Rows.{Row, FieldRead};
+ghost use Rattle.jobs.specs.Signs.{squeezed};
+
+use crate::cursor::{Cursor, Source};
+use crate::place::{BadText, Place, Sign, Wrong};
+
+// The numbers of a line take the place of those that were there. An empty field is a number that nobody knows, and is put as 0.
+// The number of the line is for the place of a fault.
+pub fn read_row(line: &str, number: usize, numbers: &mut Vec<u64>) -> Result<(), BadText>
+    ensures { MatchResult result (λ _. Row (squeezed line.now) numbers.new.items) (λ e. OnLine number 1 (length line.now) e.place) }
+{
+    let start = Place {
+        line: number,
+        column: 1,
+    };
+    let mut cursor = Cursor::new(Source::new(line, start));
+    numbers.clear();
+    loop {
+        let (next, after) = field(cursor)?;
+        if numbers.push(next).is_err() {
+            return Err(cursor.bad(Wrong::NoMemory));
+        }
+        let end = after.past_spaces();
+        if end.is_end() {
+            return Ok(());
+        }
+        cursor = end.past_sign(Sign::Comma)?;
+    }
+}
+
+// A number, or nothing but spaces.
+fn field(cursor: Cursor<'_>) -> Result<(u64, Cursor<'_>), BadText>
+    ensures { MatchResult result (λ r. FieldRead cursor.entry r.1 r.0) (λ e. InText cursor.entry.source e) }
+{
+    let here = cursor.past_spaces();
+    let (word, after) = here.word();
+    if word.is_empty() {
+        Ok((0, after))
+    } else {
+        cursor.number()
+    }
+}

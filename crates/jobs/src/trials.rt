@@ -1,0 +1,168 @@
+// What no clause says: that right texts are taken, which fault a wrong one has and where, and what is printed.
+use crate::build::build;
+use crate::job::{Step, read_head, read_step};
+use crate::parse::parse_written;
+use crate::place::{BadText, HeadWord, Place, Sign, Wrong};
+use crate::row::read_row;
+use crate::unbuilt::Unbuilt;
+use book::entry::Entry;
+use codings::coding::Coding;
+use std::test::Fail;
+
+fn bad(line: usize, column: usize, wrong: Wrong) -> Option<BadText> {
+    Some(BadText {
+        place: Place { line, column },
+        wrong,
+    })
+}
+
+#[test]
+fn a_pile(rt: HostRuntime) -> Result<(), Fail> {
+    let heap = rt.alloc();
+    let mut names = Vec::new(heap);
+    let text = "chain( plus(9, 4) ,turned(narrowed(plus(12,5), 9)))";
+    let written = parse_written(heap, text, 1, 6, &mut names)?;
+    let built = build(heap, &written, &[])?;
+    assert_eq!(rt; built.long, 0);
+    assert_eq!(rt; built.pile.height(), 4);
+    assert_eq!(rt; built.pile.top(), 9);
+    // 3 and 4 are 7; in the narrowed plus 2 comes to 7.
+    assert_eq!(rt; built.pile.code(3), Ok(2));
+    Ok(())
+}
+
+#[test]
+fn files_once_each(rt: HostRuntime) -> Result<(), Fail> {
+    let heap = rt.alloc();
+    let mut names = Vec::new(heap);
+    let text = "chain(kcipher(a.draft, a.key), kcipher(a.draft, b.key))";
+    let written = parse_written(heap, text, 1, 1, &mut names)?;
+    assert_eq!(rt; names.len(), 3);
+    assert_eq!(rt; build(heap, &written, &[]).err(), Some(Unbuilt::NoFile(0)));
+    Ok(())
+}
+
+#[test]
+fn long_narrowings(rt: HostRuntime) -> Result<(), Fail> {
+    let heap = rt.alloc();
+    let mut names = Vec::new(heap);
+    let text = "chain(narrowed(clear(1999999), 1), narrowed(clear(2000000), 1))";
+    let written = parse_written(heap, text, 1, 1, &mut names)?;
+    assert_eq!(rt; build(heap, &written, &[])?.long, 1);
+    Ok(())
+}
+
+#[test]
+fn bad_piles(rt: HostRuntime) -> Result<(), Fail> {
+    let heap = rt.alloc();
+    let mut names = Vec::new(heap);
+    let cases = [
+        ("plain(3)", 1, Wrong::UnknownName),
+        ("clear 3)", 7, Wrong::MissingSign(Sign::Open)),
+        ("clear(x)", 7, Wrong::NoNumber),
+        ("clear(+3)", 7, Wrong::NoNumber),
+        ("clear(18446744073709551616)", 7, Wrong::NoNumber),
+        ("plus(3 4)", 8, Wrong::MissingSign(Sign::Comma)),
+        ("clear(3", 8, Wrong::MissingSign(Sign::Close)),
+        ("clear(3) 4", 10, Wrong::GoesOn),
+        ("kcipher(,a)", 9, Wrong::NoName),
+        ("", 1, Wrong::UnknownName),
+    ];
+    for (text, column, wrong) in cases {
+        let found = parse_written(heap, text, 3, 1, &mut names).err();
+        assert_eq!(rt; found, bad(3, column, wrong));
+    }
+    Ok(())
+}
+
+#[test]
+fn a_head(rt: HostRuntime) -> Result<(), Fail> {
+    let heap = rt.alloc();
+    let text =
+        "# a job\n\nroles YHC\nyarn clear(9)\nrecords 20\nhands kcipher(d, k)\nrows in.csv\ntally\n";
+    let head = read_head(heap, text)?;
+    assert_eq!(rt; head.lines, 6);
+    assert_eq!(rt; head.records, 20);
+    assert_eq!(rt; head.roles.as_slice(), ['Y', 'H', 'C'].as_slice());
+    assert_eq!(rt; head.files.len(), 2);
+    Ok(())
+}
+
+#[test]
+fn bad_heads(rt: HostRuntime) -> Result<(), Fail> {
+    let heap = rt.alloc();
+    let cases = [
+        ("yarn clear(9)\nyarn clear(9)\n", 2, 1, Wrong::TwiceGiven),
+        (
+            "yarn clear(9)\nhands clear(9)\n",
+            3,
+            1,
+            Wrong::MissingLine(HeadWord::Roles),
+        ),
+        (
+            "yarn clear(9)\ntally\n",
+            2,
+            1,
+            Wrong::MissingLine(HeadWord::Hands),
+        ),
+        ("yarn clear(9)\n  weave 3\n", 2, 3, Wrong::UnknownWord),
+        ("yarn clear(9,\n", 1, 13, Wrong::MissingSign(Sign::Close)),
+    ];
+    for (text, line, column, wrong) in cases {
+        assert_eq!(rt; read_head(heap, text).err(), bad(line, column, wrong));
+    }
+    Ok(())
+}
+
+#[test]
+fn steps(rt: HostRuntime) -> Result<(), Fail> {
+    assert_eq!(rt; read_step("  # show 1 2", 4), Ok(None));
+    assert_eq!(rt; read_step("", 4), Ok(None));
+    assert_eq!(rt; read_step("tally", 4), Ok(Some(Step::Tally)));
+    assert_eq!(rt; read_step("withdraw 3 ", 4), Ok(Some(Step::Withdraw(3))));
+    let entry = Entry { row: 1, column: 2 };
+    assert_eq!(rt; read_step("show 1 2", 4), Ok(Some(Step::Show(entry))));
+    assert_eq!(rt;
+        read_step("turnback 1 2", 4),
+        Ok(Some(Step::TurnBack(entry)))
+    );
+    assert!(rt; matches!(read_step("rows in.csv", 4), Ok(Some(Step::Rows("in.csv")))));
+    assert!(rt;
+        matches!(
+            read_step("draft in.draft", 4),
+            Ok(Some(Step::Draft("in.draft")))
+        )
+    );
+    assert!(rt; matches!(read_step("sheet out", 4), Ok(Some(Step::Sheet("out")))));
+    assert_eq!(rt; read_step("show 1", 4).err(), bad(4, 7, Wrong::NoNumber));
+    assert_eq!(rt; read_step("tally 1", 4).err(), bad(4, 7, Wrong::GoesOn));
+    assert_eq!(rt; read_step("records 1", 4).err(), bad(4, 1, Wrong::LateHead));
+    Ok(())
+}
+
+#[test]
+fn rows(rt: HostRuntime) -> Result<(), Fail> {
+    let mut numbers = Vec::new(rt.alloc());
+    read_row("1, 22,,3 ,", 1, &mut numbers)?;
+    assert_eq!(rt; numbers.as_slice(), [1, 22, 0, 3, 0].as_slice());
+    assert_eq!(rt;
+        read_row("1,x", 7, &mut numbers).err(),
+        bad(7, 3, Wrong::NoNumber)
+    );
+    assert_eq!(rt;
+        read_row("1 2", 7, &mut numbers).err(),
+        bad(7, 3, Wrong::MissingSign(Sign::Comma))
+    );
+    Ok(())
+}
+
+#[test]
+fn words(rt: HostRuntime) -> Result<(), Fail> {
+    let heap = rt.alloc();
+    let found = read_row("1 2", 7, &mut Vec::new(heap))
+        .err()
+        .ok_or("no fault")?;
+    let printed = found.to_string(heap)?;
+    assert_eq!(rt; printed.as_str(), "line 7 column 3: ',' belongs here");
+    Ok(())
+}
