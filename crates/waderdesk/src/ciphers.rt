@@ -1,27 +1,21 @@
 // Coding numbers by the K-Cipher of a draft and a key, and back.
 use crate::refusals::tell_answer;
-use anyhow::anyhow;
+use anyhow::{Context, anyhow};
 use codings::coding::Coding;
 use codings::turned::Turned;
-use draft::read::read;
+use kcipher::bytes::{NoCipher, cipher_of};
 use kcipher::cipher::KCipher;
-use kcipher::make::make;
 use std::io::{BufRead, BufReader};
 use std::{fs, str};
 
-// The cipher of a draft and a key.
-pub fn cipher_of(draft: &[u8], key: &[u8]) -> anyhow::Result<KCipher> {
-    let draft = read(draft).map_err(|fault| anyhow!("the draft is refused {fault}"))?;
-    let mut work = [0; 24];
-    make(&draft, key, &mut work).map_err(|refusal| anyhow!(
-        "the key is refused {}: {refusal}",
-        refusal.number()
-    ))
-}
-
-// Each is a file of raw bytes.
+// The cipher of a draft and a key, each a file of raw bytes. Which of them is refused the error tells.
 fn read_cipher(rt: &HostRuntime, draft: &str, key: &str) -> anyhow::Result<KCipher> {
-    cipher_of(&fs::read(rt, draft)?, &fs::read(rt, key)?)
+    let draft_bytes = fs::read(rt, draft).context(draft)?;
+    let key_bytes = fs::read(rt, key).context(key)?;
+    cipher_of(&draft_bytes, &key_bytes).map_err(|refused| match refused {
+        NoCipher::Draft(_) => anyhow!("{draft}: {refused}"),
+        NoCipher::Key(_) => anyhow!("{key}: {refused}"),
+    })
 }
 
 // The codes of the numbers on standard input, one line for each.
@@ -48,7 +42,12 @@ fn tell_each<C: Coding>(rt: &HostRuntime, coding: &C) -> anyhow::Result<()> {
     Ok(())
 }
 
-// The decimal number that a line has, with nothing else but space around it.
+// The decimal number that a line has, digits with nothing but space around them.
 fn number_in(line: &[u8]) -> Option<u64> {
-    str::from_utf8(line).ok()?.trim().parse().ok()
+    let word = str::from_utf8(line).ok()?.trim();
+    if word.bytes().all(|byte| byte.is_ascii_digit()) {
+        word.parse().ok()
+    } else {
+        None
+    }
 }

@@ -1,9 +1,10 @@
 // What a draft says, or why its bytes are none.
+use anyhow::Context;
 use draft::read::read;
-use std::{fs, io};
+use std::fs;
 
 pub fn tell_draft(rt: &HostRuntime, path: &str) -> anyhow::Result<()> {
-    let bytes = fs::read(rt, path)?;
+    let bytes = fs::read(rt, path).context(path)?;
     match read(&bytes) {
         Ok(draft) => println!(rt; "{}", draft.parts())?,
         Err(fault) => println!(rt; "refused {fault}")?,
@@ -11,20 +12,17 @@ pub fn tell_draft(rt: &HostRuntime, path: &str) -> anyhow::Result<()> {
     Ok(())
 }
 
-// Three drafts of width 24 that are spoilt: one with a letter that is no command, one that ends inside C0, and one whose
-// order 0 sends each bit to bit 0.
-pub fn show_spoilt(rt: &impl Print) -> io::Result<()> {
-    println!(rt; "three spoilt drafts:")?;
-    tell_fault(rt, b"W\x18FX")?;
-    tell_fault(rt, b"W\x18FA\x07\x00\x00")?;
-    let mut all_to_one = [0; 68];
-    all_to_one[..4].copy_from_slice(b"W\x18F0");
-    tell_fault(rt, &all_to_one)
-}
-
-fn tell_fault(rt: &impl Print, bytes: &[u8]) -> io::Result<()> {
+// Whether the bytes are a draft, as one line behind the name of their file.
+pub fn tell_whether_draft(rt: &impl Print, name: &str, bytes: &[u8]) -> anyhow::Result<()> {
     match read(bytes) {
-        Ok(_) => println!(rt; "  accepted"),
-        Err(fault) => println!(rt; "  refused {fault}"),
+        Ok(draft) => {
+            let parts = draft.parts();
+            println!(rt;
+                "{name}: a draft of width {}, flow {}",
+                parts.width, parts.flow
+            )?;
+        }
+        Err(fault) => println!(rt; "{name}: refused {fault}")?,
     }
+    Ok(())
 }

@@ -1,57 +1,35 @@
-// The desk. Asked for nothing it shows what it can do: it codes the colour numbers of a mill by a pile of codings, codes
-// them back, shows a refusal, and keeps a small release of loom records. `draft FILE` tells what a draft says, `spoilt`
-// reads three spoilt ones, and `code` and `back` code the numbers on standard input by the K-Cipher of a draft and a key.
+// The desk: what a mill and a school run.
 #![tactic(auto)]
 
 mod ciphers;
-mod colours;
 mod drafts;
-mod loom;
+mod folder;
+mod job;
 mod refusals;
-mod sheds;
+mod sheet;
 
 use anyhow::anyhow;
 use ciphers::{tell_codes, tell_numbers};
-use colours::{colour_coding, hands_coding, tell_all};
-use drafts::{show_spoilt, tell_draft};
-use loom::keep_release;
-use piles::pile::Pile;
-use release::column_codings::ColumnCodings;
-use sheds::{colour_cipher, weaver_cipher};
+use drafts::tell_draft;
+use job::do_job;
 use std::env;
 
-const USAGE: &str = "usage: waderdesk [draft FILE | spoilt | code DRAFT KEY | back DRAFT KEY]";
+const HELP: &str = "\
+waderdesk codes the colours, lots and weavers of loom records.
 
-fn show(rt: &HostRuntime) -> anyhow::Result<()> {
-    let yarn = colour_coding(rt.alloc())?;
-    tell_all(rt, &yarn)?;
-    let hands = hands_coding(rt.alloc())?;
-    keep_release(rt, &ColumnCodings { yarn, hands })?;
-    show_ciphers(rt)
-}
+  waderdesk draft FILE       what a draft says, or its fault
+  waderdesk code DRAFT KEY   the codes of the numbers on standard input
+  waderdesk back DRAFT KEY   the numbers of the codes on standard input
+  waderdesk release JOB      opens a release, makes the calls of a job and
+                             writes the coded sheet
+  waderdesk --help           this
 
-// The same calls over two K-Ciphers, and over piles of them.
-fn show_ciphers(rt: &HostRuntime) -> anyhow::Result<()> {
-    let heap = rt.alloc();
-    println!(rt; "yarn by K-Cipher Flex at width 24, hands by K-Cipher CPA at width 33:")?;
-    let yarn = colour_cipher(heap)?;
-    let hands = weaver_cipher(heap)?;
-    keep_release(
-        rt,
-        &ColumnCodings {
-            yarn: &yarn,
-            hands: &hands,
-        },
-    )?;
-    println!(rt; "the first narrowed to 749, the second turned:")?;
-    keep_release(
-        rt,
-        &ColumnCodings {
-            yarn: Pile::leaf(yarn).narrowed(heap, 749)?,
-            hands: Pile::leaf(hands).turned(heap)?,
-        },
-    )
-}
+DRAFT and KEY are files of raw bytes. Numbers are decimal, one a line, and
+each line has one line of answer. A refusal reads `refused N: words`; one that
+ends the program goes to standard error, with status 1. docs/SPEC.md has the
+rules and the numbers, docs/JOBS.md the lines of a job. A month to try:
+
+  waderdesk release examples/month/month.job";
 
 // The task that the arguments name, and the files that it is asked of.
 fn run(rt: &HostRuntime) -> anyhow::Result<()> {
@@ -60,13 +38,13 @@ fn run(rt: &HostRuntime) -> anyhow::Result<()> {
     let (task, first, second) = (args.next(), args.next(), args.next());
     let more = args.next();
     match (task.as_deref(), first.as_deref(), second.as_deref()) {
-        _ if more.is_some() => Err(anyhow!("{USAGE}")),
-        (None, _, _) => show(rt),
+        _ if more.is_some() => Err(anyhow!("too many words; try waderdesk --help")),
+        (None, _, _) | (Some("--help"), None, None) => Ok(println!(rt; "{HELP}")?),
         (Some("draft"), Some(path), None) => tell_draft(rt, path),
-        (Some("spoilt"), None, None) => Ok(show_spoilt(rt)?),
         (Some("code"), Some(draft), Some(key)) => tell_codes(rt, draft, key),
         (Some("back"), Some(draft), Some(key)) => tell_numbers(rt, draft, key),
-        _ => Err(anyhow!("{USAGE}")),
+        (Some("release"), Some(job), None) => do_job(rt, job),
+        _ => Err(anyhow!("no such task; try waderdesk --help")),
     }
 }
 

@@ -1,7 +1,7 @@
 // The ciphers of the demo: a draft and a key for the colours of a mill, and others for its weavers.
 ghost use Rattle.std.specs.Prelude.{◌<◌};
 
-use crate::ciphers::cipher_of;
+use kcipher::bytes::cipher_of;
 use kcipher::cipher::KCipher;
 use std::alloc::{AllocError, Global};
 
@@ -17,7 +17,7 @@ pub fn colour_cipher(heap: Global) -> anyhow::Result<KCipher> {
         push_order(&mut bytes, order, 24)?;
     }
     bytes.push(b'Z')?;
-    cipher_of(&bytes, COLOUR_KEY)
+    Ok(cipher_of(&bytes, COLOUR_KEY)?)
 }
 
 pub fn weaver_cipher(heap: Global) -> anyhow::Result<KCipher> {
@@ -29,7 +29,7 @@ pub fn weaver_cipher(heap: Global) -> anyhow::Result<KCipher> {
     push_order(&mut bytes, b'4', 64)?;
     push_order(&mut bytes, b'5', 64)?;
     bytes.push(b'Z')?;
-    cipher_of(&bytes, WEAVER_KEY)
+    Ok(cipher_of(&bytes, WEAVER_KEY)?)
 }
 
 // The width, the flow, and 5 for the constant C0.
