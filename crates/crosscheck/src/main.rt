@@ -5,6 +5,7 @@
 
 use anyhow::{anyhow, bail};
 use codings::coding::Coding;
+use codings::refusal::AboveTop;
 use kcipher::bytes::cipher_of;
 use kcipher::cipher::KCipher;
 use std::alloc::Global;
@@ -14,30 +15,38 @@ fn main(rt: HostRuntime) -> anyhow::Result<()> {
     let heap = rt.alloc();
     let mut cipher = None;
     for line in BufReader::new(heap, rt.reader())?.lines(heap) {
-        let line = line?;
-        let mut words = line.split_whitespace();
-        match (words.next(), words.next(), words.next()) {
-            (Some("cipher"), Some(draft), Some(key)) => cipher = Some(opened(heap, draft, key)?),
-            (Some("code"), Some(number), None) => {
-                let code = asked(&cipher)?.code(number.parse()?)?;
-                println!(rt; "{code}")?;
-            }
-            (Some("back"), Some(code), None) => {
-                let number = asked(&cipher)?.back(code.parse()?)?;
-                println!(rt; "{number}")?;
-            }
-            _ => bail!("{line}: no question"),
-        }
+        take(&rt, &mut cipher, &line?)?;
     }
     Ok(())
 }
 
+// Opens a cipher, or asks the one that is open.
+fn take(rt: &HostRuntime, cipher: &mut Option<KCipher>, line: &str) -> anyhow::Result<()> {
+    let mut words = line.split_whitespace();
+    match (words.next(), words.next(), words.next()) {
+        (Some("cipher"), Some(draft), Some(key)) => {
+            *cipher = Some(opened(rt.alloc(), draft, key)?);
+            Ok(())
+        }
+        (Some("code"), Some(number), None) => tell(rt, asked(cipher)?.code(number.parse()?)),
+        (Some("back"), Some(code), None) => tell(rt, asked(cipher)?.back(code.parse()?)),
+        _ => bail!("{line}: no question"),
+    }
+}
+
 fn opened(heap: Global, draft: &str, key: &str) -> anyhow::Result<KCipher> {
-    Ok(cipher_of(&hex::decode(heap, draft)?, &hex::decode(heap, key)?)?)
+    let draft = hex::decode(heap, draft)?;
+    let key = hex::decode(heap, key)?;
+    Ok(cipher_of(&draft, &key)?)
 }
 
 fn asked(cipher: &Option<KCipher>) -> anyhow::Result<&KCipher> {
     cipher
         .as_ref()
         .ok_or(anyhow!("a question before any cipher"))
+}
+
+fn tell(rt: &impl Print, answer: Result<u64, AboveTop>) -> anyhow::Result<()> {
+    println!(rt; "{}", answer?)?;
+    Ok(())
 }

@@ -20,7 +20,7 @@ pub fn colour_coding(heap: Global) -> anyhow::Result<Pile<Plus>> {
     Ok(first.chain(heap, then)?.narrowed(heap, LAST_COLOUR)?)
 }
 
-// The weavers' numbers, turned so that the two codings of the desk differ in kind.
+// The weavers' numbers, turned so that the two codings differ in kind.
 pub fn hands_coding(heap: Global) -> anyhow::Result<Pile<Plus>> {
     Ok(Pile::leaf(Plus::new(199, 31)?).turned(heap)?)
 }

@@ -1,4 +1,4 @@
-// A small release of loom records: a yarn colour, a weaver and a loom for each row, coded by two piles. Every way
+// A small release of loom records: a yarn colour, a weaver and a loom for each row, coded by any two codings. Every way
 // out seals the release or scraps it.
 use crate::refusals::tell_refused;
 use book::call::{Answer, Call};

@@ -1,4 +1,4 @@
-// The ciphers of the demo: a draft and a key for the colours of a mill, and others for its weavers.
+// The ciphers of the tour: a draft and a key for the colours of a mill, and others for its weavers.
 ghost use Rattle.std.specs.Prelude.{◌<◌};
 
 use kcipher::bytes::cipher_of;

@@ -8,14 +8,21 @@ use kcipher::cipher::KCipher;
 use std::io::{BufRead, BufReader};
 use std::{fs, str};
 
-// The cipher of a draft and a key, each a file of raw bytes. Which of them is refused the error tells.
+// The cipher of a draft and a key, each a file of raw bytes. Which of them is refused stands on standard error.
 fn read_cipher(rt: &HostRuntime, draft: &str, key: &str) -> anyhow::Result<KCipher> {
     let draft_bytes = fs::read(rt, draft).context(draft)?;
     let key_bytes = fs::read(rt, key).context(key)?;
-    cipher_of(&draft_bytes, &key_bytes).map_err(|refused| match refused {
-        NoCipher::Draft(_) => anyhow!("{draft}: {refused}"),
-        NoCipher::Key(_) => anyhow!("{key}: {refused}"),
-    })
+    match cipher_of(&draft_bytes, &key_bytes) {
+        Ok(cipher) => Ok(cipher),
+        Err(refused) => {
+            let file = match refused {
+                NoCipher::Draft(_) => draft,
+                NoCipher::Key(_) => key,
+            };
+            eprintln!(rt; "{file}: {refused}")?;
+            Err(anyhow!("no cipher"))
+        }
+    }
 }
 
 // The codes of the numbers on standard input, one line for each.

@@ -17,7 +17,7 @@ use jobs::written::Written;
 use piles::pile::Pile;
 use release::column_codings::ColumnCodings;
 use release::states::{Open, Release};
-use std::io::{BufRead, BufReader};
+use std::io::{self, BufRead, BufReader};
 use std::{fs, str};
 
 // A release has at most 4096 row records, so opening it refuses one more as it would refuse a million.
@@ -34,7 +34,13 @@ struct Shed<'a> {
 // Every way out seals the release or scraps it.
 pub fn do_job(rt: &HostRuntime, job: &str) -> anyhow::Result<()> {
     let text = fs::read_to_string(rt, job).context(job)?;
-    let head = read_head(rt.alloc(), &text).map_err(|bad| anyhow!("{job} {bad}"))?;
+    let head = match read_head(rt.alloc(), &text) {
+        Ok(head) => head,
+        Err(bad) => {
+            eprintln!(rt; "{job} {bad}")?;
+            return Err(anyhow!("no release"));
+        }
+    };
     let folder = Folder::of(job);
     let shed = Shed {
         rt,
@@ -87,13 +93,13 @@ fn coding_of(
     names: &[String],
     files: &[Vec<u8>],
 ) -> anyhow::Result<Pile<Leaf>> {
-    let built = build(rt.alloc(), written, files).map_err(|unbuilt| match unbuilt {
-        Unbuilt::Draft(file, _) | Unbuilt::Key(file, _) => {
-            anyhow!("{which}: {}: refused {unbuilt}", name_of(names, file))
+    let built = match build(rt.alloc(), written, files) {
+        Ok(built) => built,
+        Err(unbuilt) => {
+            tell_unbuilt(rt, which, names, unbuilt)?;
+            return Err(anyhow!("no release"));
         }
-        Unbuilt::AboveTop => anyhow!("{which}: refused {unbuilt}"),
-        Unbuilt::NoFile(_) | Unbuilt::Pile(_) => anyhow!("{which}: {unbuilt}"),
-    })?;
+    };
     if built.long > 0 {
         println!(rt;
             "{which}: a code may take more than a million steps, by {} of its narrowings",
@@ -101,6 +107,21 @@ fn coding_of(
         )?;
     }
     Ok(built.pile)
+}
+
+fn tell_unbuilt(
+    rt: &HostRuntime,
+    which: &str,
+    names: &[String],
+    unbuilt: Unbuilt,
+) -> io::Result<()> {
+    match unbuilt {
+        Unbuilt::Draft(file, _) | Unbuilt::Key(file, _) => {
+            eprintln!(rt; "{which}: {}: refused {unbuilt}", name_of(names, file))
+        }
+        Unbuilt::AboveTop => eprintln!(rt; "{which}: refused {unbuilt}"),
+        Unbuilt::NoFile(_) | Unbuilt::Pile(_) => eprintln!(rt; "{which}: {unbuilt}"),
+    }
 }
 
 fn name_of(names: &[String], file: usize) -> &str {
@@ -125,9 +146,15 @@ impl Shed<'_> {
         for (i, line) in text.lines().enumerate().skip(head_lines) {
             match read_step(line, i + 1) {
                 Ok(Some(Step::Sheet(name))) => sheet = Some(name),
-                Ok(Some(step)) => {
-                    if let Err(error) = self.do_step(step, release, memory) {
+                Ok(Some(Step::Rows(name))) => {
+                    if let Err(error) = self.put_rows(name, release, memory) {
                         println!(rt; "{job} line {}: {error:#}", i + 1)?;
+                    }
+                }
+                Ok(Some(step)) => {
+                    print!(rt; "{job} line {}: ", i + 1)?;
+                    if let Err(error) = self.do_step(step, release, memory) {
+                        println!(rt; "{error:#}")?;
                     }
                 }
                 Ok(None) => {}
@@ -138,6 +165,7 @@ impl Shed<'_> {
         Ok(sheet)
     }
 
+    // A step that has one line of answer.
     fn do_step(
         &self,
         step: Step<'_>,
@@ -145,17 +173,14 @@ impl Shed<'_> {
         memory: &mut [Row],
     ) -> anyhow::Result<()> {
         match step {
-            Step::Rows(name) => self.put_rows(name, release, memory),
             Step::Withdraw(row) => self.call(Call::Withdraw(row), release, memory),
             Step::Show(entry) => self.call(Call::Show(entry), release, memory),
             Step::TurnBack(entry) => self.call(Call::TurnBack(entry), release, memory),
             Step::Tally => self.call(Call::Tally, release, memory),
-            Step::Draft(name) => tell_whether_draft(
-                self.rt,
-                name,
-                &self.folder.read(self.rt, name)?,
-            ),
-            Step::Sheet(_) => Ok(()),
+            Step::Draft(name) => {
+                tell_whether_draft(self.rt, name, &self.folder.read(self.rt, name)?)
+            }
+            Step::Rows(_) | Step::Sheet(_) => Ok(()),
         }
     }
 
@@ -189,7 +214,7 @@ impl Shed<'_> {
         let file = self.folder.open(rt, name)?;
         let mut numbers = Vec::new(heap);
         for (i, line) in BufReader::new(heap, file)?.split(heap, b'\n').enumerate() {
-            let line = line?;
+            let line = line.context(name)?;
             match row_of(&line, i + 1, &mut numbers) {
                 Ok(()) => {
                     print!(rt; "{name} line {}: ", i + 1)?;

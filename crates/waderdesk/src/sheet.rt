@@ -1,5 +1,6 @@
 // The coded sheet of a release: for each standing row a line of its number and its codes, with commas between.
 use crate::folder::Folder;
+use anyhow::Context;
 use book::entry::Entry;
 use book::row::Row;
 use release::states::{Release, Sealed};
@@ -14,12 +15,13 @@ pub fn write_sheet(
     memory: &[Row],
     columns: usize,
 ) -> anyhow::Result<()> {
-    let mut out = BufWriter::new(rt.alloc(), fs::create(rt, &folder.path(rt, name)?)?)?;
+    let file = fs::create(rt, &folder.path(rt, name)?).context(name)?;
+    let mut out = BufWriter::new(rt.alloc(), file)?;
     let tally = sealed.tally(memory)?;
     for row in 1..=tally.taken {
-        write_row(&mut out, sealed, memory, row, columns)?;
+        write_row(&mut out, sealed, memory, row, columns).context(name)?;
     }
-    out.flush()?;
+    out.flush().context(name)?;
     println!(rt; "{name}: {} rows written", tally.standing)?;
     Ok(())
 }
