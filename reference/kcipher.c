@@ -325,7 +325,10 @@ static uint64_t inv_cpa_box(uint64_t x, uint64_t r0, uint64_t r1, int width)
     return inverse(subtract(rotate_down(x, width), r1, width), width) ^ r0;
 }
 
-static uint64_t sbox_cpa(const struct cipher *c, uint64_t x, int round)
+/* One way through a box, or the other. */
+typedef uint64_t cpa_way(uint64_t x, uint64_t r0, uint64_t r1, int width);
+
+static uint64_t through_cpa_boxes(const struct cipher *c, uint64_t x, int round, cpa_way *way)
 {
     struct boxes boxes = get_sbox_lengths(c->n);
     int u = 2 * round * c->n, v = (2 * round + 1) * c->n;
@@ -334,23 +337,19 @@ static uint64_t sbox_cpa(const struct cipher *c, uint64_t x, int round)
         int start = box_start(boxes, i), width = box_width(boxes, i);
         uint64_t r0 = slice_string(c->randomizer, u + start, width);
         uint64_t r1 = slice_string(c->randomizer, v + start, width);
-        y |= cpa_box(slice(x, start, width), r0, r1, width) << start;
+        y |= way(slice(x, start, width), r0, r1, width) << start;
     }
     return y;
 }
 
+static uint64_t sbox_cpa(const struct cipher *c, uint64_t x, int round)
+{
+    return through_cpa_boxes(c, x, round, cpa_box);
+}
+
 static uint64_t inv_sbox_cpa(const struct cipher *c, uint64_t x, int round)
 {
-    struct boxes boxes = get_sbox_lengths(c->n);
-    int u = 2 * round * c->n, v = (2 * round + 1) * c->n;
-    uint64_t y = 0;
-    for (int i = 0; i < boxes.count; i++) {
-        int start = box_start(boxes, i), width = box_width(boxes, i);
-        uint64_t r0 = slice_string(c->randomizer, u + start, width);
-        uint64_t r1 = slice_string(c->randomizer, v + start, width);
-        y |= inv_cpa_box(slice(x, start, width), r0, r1, width) << start;
-    }
-    return y;
+    return through_cpa_boxes(c, x, round, inv_cpa_box);
 }
 
 static unsigned key_bit(const uint8_t *key, int i)
