@@ -1,3 +1,4 @@
 pub mod Squeezed
+pub mod Wording
 pub mod Reading
 pub mod Rowing

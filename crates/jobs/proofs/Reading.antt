@@ -63,13 +63,13 @@ grown_twice xs ys zs g h = record { more = g.more ++ h.more; is = h.is ∙ ap (�
 -- ---- what stands in brackets
 
 pub clear_read : (c d : Cursor) (t : ℕ) → NumberRead c d t → (names : List (List ℕ)) → InsideRead names 1 form.Clear c d (Clear t)
-clear_read c d t h names = record { text = h.digits; after = h.after; named = refl; inside = h.number; low = omega arith }
+clear_read c d t h names = record { text = h.digits; after = h.word.after; named = refl; inside = h.number; low = omega arith }
 
 pub plus_read : (c d e f : Cursor) (t k : ℕ) → NumberRead c d t → After d e (44 ∷ []) → NumberRead e f k → (names : List (List ℕ))
     → InsideRead names 1 form.Plus c f (Plus t k)
 plus_read c d e f t k h comma i names = record {
   text = h.digits ++ (44 ∷ i.digits);
-  after = after_two c d e f h.digits i.digits h.after comma i.after;
+  after = after_two c d e f h.digits i.digits h.word.after comma i.word.after;
   named = refl;
   inside = (h.digits, i.digits, refl, h.number, i.number);
   low = omega arith;
@@ -120,7 +120,7 @@ narrowed_read xs n c d e f a below to u p comma q =
     let low1 : height below.value ≤ n = p'.low in
     record {
       text = p'.text ++ (44 ∷ q.digits);
-      after = after_two c d e f p'.text q.digits p'.after comma q.after;
+      after = after_two c d e f p'.text q.digits p'.after comma q.word.after;
       named = refl;
       inside = (p'.spelt.within, q.digits, ap (λ z. z ++ (44 ∷ q.digits)) p'.spelt.is, p'.spelt.inside, q.number);
       low = omega (arith, low1);

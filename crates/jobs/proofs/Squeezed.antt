@@ -7,16 +7,16 @@ use Rattle.jobs.specs.Signs.{is_space, squeezed, code_of}
 use Rattle.jobs.specs.declared.place.Sign.{Sign}
 use Rattle.jobs.specs.declared.place.Sign.TheVariants.{Open, Comma, Close}
 
-squeezed_nil : squeezed [] ≡ []
+pub squeezed_nil : squeezed [] ≡ []
 unfolding squeezed
 squeezed_nil = refl
 
-squeezed_cons : (b : ℕ) (bs : List ℕ) (v : Bool) → is_space b ≡ v → squeezed (b ∷ bs) ≡ cond v (squeezed bs) (b ∷ squeezed bs)
+pub squeezed_cons : (b : ℕ) (bs : List ℕ) (v : Bool) → is_space b ≡ v → squeezed (b ∷ bs) ≡ cond v (squeezed bs) (b ∷ squeezed bs)
 unfolding squeezed
 squeezed_cons b bs v e = ap (λ z. cond z (squeezed bs) (b ∷ squeezed bs)) e
 
 -- Where text goes on at i it begins with the byte at i.
-from_next : (bs : List ℕ) (i : ℕ) → i < length bs → drop i bs ≡ get_or bs i 0 ∷ drop (i + 1) bs
+pub from_next : (bs : List ℕ) (i : ℕ) → i < length bs → drop i bs ≡ get_or bs i 0 ∷ drop (i + 1) bs
 from_next bs i low = rw add-one (drop-cons bs i 0 low)
 
 -- a space at i
@@ -34,11 +34,6 @@ past_word bs i low e h =
     h ∙ ap (λ z. take i bs ++ z) (past_other bs i low e)
     ∙ sym (append_assoc (take i bs) (get_or bs i 0 ∷ []) (squeezed (drop (i + 1) bs)))
     ∙ ap (λ z. z ++ squeezed (drop (i + 1) bs)) (sym next)
-
--- a word ends at every space
-pub no_space : (v r : Bool) → (v ≡ true → r ≡ true) → r ≡ false → v ≡ false
-no_space true r h e = let t = h refl in cc
-no_space false r h e = refl
 
 sign_stays : (s : Sign) → is_space (code_of s) ≡ false
 sign_stays Open = refl

@@ -1,6 +1,7 @@
 -- Places in a text.
-use Rattle.std.specs.Prelude.{◌≡◌, ℕ, ◌+◌, ◌≤◌, List, ◌++◌, length, drop}
-use Rattle.jobs.specs.Signs.{squeezed, Numeral}
+use Rattle.std.specs.List.{AllByRecursion}
+use Rattle.std.specs.Prelude.{◌≡◌, ℕ, ◌+◌, ◌<◌, ◌≤◌, false, List, ◌++◌, length, drop}
+use Rattle.jobs.specs.Signs.{ends_word, squeezed, words, WordOver, Numeral}
 use Rattle.jobs.specs.declared.cursor.Cursor.{Cursor}
 use Rattle.jobs.specs.declared.cursor.Source.{Source}
 use Rattle.jobs.specs.declared.place.BadText.{BadText}
@@ -18,19 +19,35 @@ Within s p = OnLine s.start.line s.start.column (length s.bytes.now) p
 abbrev pub InText : Source → BadText → Type 0
 InText s e = Within s e.place
 
+-- What is left of the text.
+abbrev pub left_of : Cursor → List ℕ
+left_of c = drop c.at c.source.bytes.now
+
 -- What is left of the text, without its spaces.
 abbrev pub rest_of : Cursor → List ℕ
-rest_of c = squeezed (drop c.at c.source.bytes.now)
+rest_of c = squeezed (left_of c)
+
+-- What is left of the text, as its words.
+abbrev pub words_of : Cursor → List (List ℕ)
+words_of c = words (left_of c)
 
 -- A later place of the same text; between the two stands s, with spaces.
 pub record After (c d : Cursor) (s : List ℕ) : Type 0 where
   pub same : d.source ≡ c.source
   pub text : rest_of c ≡ s ++ rest_of d
 
+-- Behind spaces stands this word, which is not empty, and the second place is where it ends.
+pub record NextWord (c d : Cursor) (w : List ℕ) : Type 0 where
+  pub after : After c d w
+  pub same_words : words_of c ≡ words (w ++ left_of d)
+  pub some : 0 < length w
+  pub whole : AllByRecursion (λ b. ends_word b ≡ false) w
+  pub over : WordOver (left_of d)
+
 -- A number stands between the two.
 pub record NumberRead (c d : Cursor) (n : ℕ) : Type 0 where
   pub digits : List ℕ
-  pub after : After c d digits
+  pub word : NextWord c d digits
   pub number : Numeral digits n
 
 -- Lines and columns count from 1.

@@ -1,5 +1,6 @@
 -- The signs and numbers of a text.
-use Rattle.std.specs.Prelude.{◌≡◌, ℕ, Bool, ◌||◌, cond, List, [], ◌∷◌, ◌==◌}
+use Rattle.std.specs.List.{filter, slice_split}
+use Rattle.std.specs.Prelude.{◌≡◌, ℕ, Bool, true, false, ◌||◌, cond, List, [], ◌∷◌, ◌==◌}
 use Rattle.std.specs.Str.Parse.{IsNumeral, digits_value}
 use Rattle.jobs.specs.declared.place.Sign.{Sign}
 use Rattle.jobs.specs.declared.place.Sign.TheVariants.{Open, Comma, Close}
@@ -12,6 +13,28 @@ is_space b = b == 32 || b == 9
 unfoldable pub squeezed : List ℕ → List ℕ
 squeezed [] = []
 squeezed (b ∷ bs) = cond (is_space b) (squeezed bs) (b ∷ squeezed bs)
+
+-- What ends a word: a space or a sign.
+abbrev pub ends_word : ℕ → Bool
+ends_word b = is_space b || (b == 40 || (b == 44 || b == 41))
+
+abbrev pub has_bytes : List ℕ → Bool
+has_bytes [] = false
+has_bytes (b ∷ bs) = true
+
+-- The words of a text, which stand apart by spaces.
+unfoldable pub words : List ℕ → List (List ℕ)
+words s = filter has_bytes (slice_split is_space s)
+
+-- No word goes on into this text.
+abbrev pub WordOver : List ℕ → Type 0
+WordOver [] = Unit {0}
+WordOver (b ∷ bs) = ends_word b ≡ true
+
+-- Nothing follows a word, or a space does.
+abbrev pub Apart : List ℕ → Type 0
+Apart [] = Unit {0}
+Apart (b ∷ bs) = is_space b ≡ true
 
 abbrev pub code_of : Sign → ℕ
 code_of Open = 40

@@ -1,8 +1,8 @@
--- What a line of a job says. All spaces are left out.
-use Rattle.std.specs.Prelude.{◌≡◌, ℕ, List, [], ◌++◌, ◌⊎◌, codes, slice_index, Option, Some, None}
+-- What a line of a job says.
+use Rattle.std.specs.Prelude.{◌≡◌, ℕ, List, [], ◌∷◌, ◌++◌, ◌⊎◌, codes, slice_index, Option, Some, None}
 use Rattle.book.specs.declared.entry.Entry.{Entry}
-use Rattle.jobs.specs.Places.{rest_of, IsOn}
-use Rattle.jobs.specs.Signs.{squeezed, Numeral}
+use Rattle.jobs.specs.Places.{left_of, rest_of, words_of, IsOn}
+use Rattle.jobs.specs.Signs.{squeezed, words, WordOver, Apart, Numeral}
 use Rattle.jobs.specs.declared.job.LineWord.{LineWord}
 use Rattle.jobs.specs.declared.job.LineWord.TheVariants.{Head as HeadLine, Step as StepLine}
 use Rattle.jobs.specs.declared.job.Step.{Step}
@@ -13,9 +13,9 @@ use Rattle.jobs.specs.declared.job.WordLine.{WordLine}
 use Rattle.jobs.specs.declared.place.HeadWord.{HeadWord}
 use Rattle.jobs.specs.declared.place.HeadWord.TheVariants as head
 
--- An empty line or a comment.
+-- An empty line or a comment, whose first sign is #.
 abbrev pub IsBlank : List ℕ → Type 0
-IsBlank s = (s ≡ []) ⊎ (slice_index s 0 ≡ 35)
+IsBlank line = (squeezed line ≡ []) ⊎ (slice_index (squeezed line) 0 ≡ 35)
 
 abbrev pub step_text : StepWord → List ℕ
 step_text word.Rows = codes "rows"
@@ -45,35 +45,41 @@ word_of step.Tally = word.Tally
 word_of (step.Draft f) = word.Draft
 word_of (step.Sheet f) = word.Sheet
 
--- Two numbers, the row and the column.
-pub record IsEntry (s : List ℕ) (e : Entry) : Type 0 where
+-- The words are two numbers, the row and the column.
+pub record IsEntry (ws : List (List ℕ)) (e : Entry) : Type 0 where
   pub row : List ℕ
   pub column : List ℕ
-  pub is : s ≡ row ++ column
+  pub is : ws ≡ row ∷ column ∷ []
   pub row_is : Numeral row e.row
   pub column_is : Numeral column e.column
 
--- What stands behind the word of a step.
-abbrev pub Operands : List ℕ → Step → Type 0
-Operands s (step.Rows f) = s ≡ f.now
-Operands s (step.Withdraw r) = Numeral s r
-Operands s (step.Show e) = IsEntry s e
-Operands s (step.TurnBack e) = IsEntry s e
-Operands s step.Tally = s ≡ []
-Operands s (step.Draft f) = s ≡ f.now
-Operands s (step.Sheet f) = s ≡ f.now
+-- The words are one number.
+abbrev pub IsRow : List (List ℕ) → ℕ → Type 0
+IsRow ws n = (row : List ℕ) × (ws ≡ row ∷ []) × Numeral row n
 
--- A line is a step's word and what stands behind it.
-pub record StepSaid (s : List ℕ) (t : Step) : Type 0 where
-  pub behind : List ℕ
-  pub is : s ≡ step_text (word_of t) ++ behind
+-- The words behind that of a step.
+abbrev pub Operands : List (List ℕ) → Step → Type 0
+Operands ws (step.Rows f) = ws ≡ f.now ∷ []
+Operands ws (step.Withdraw r) = IsRow ws r
+Operands ws (step.Show e) = IsEntry ws e
+Operands ws (step.TurnBack e) = IsEntry ws e
+Operands ws step.Tally = ws ≡ []
+Operands ws (step.Draft f) = ws ≡ f.now ∷ []
+Operands ws (step.Sheet f) = ws ≡ f.now ∷ []
+
+-- The words of a line are a step's word and its operands.
+pub record StepSaid (line : List ℕ) (t : Step) : Type 0 where
+  pub behind : List (List ℕ)
+  pub is : words line ≡ step_text (word_of t) ∷ behind
   pub operands : Operands behind t
 
 abbrev pub Says : List ℕ → Option Step → Type 0
-Says s None = IsBlank s
-Says s (Some t) = StepSaid s t
+Says line None = IsBlank line
+Says line (Some t) = StepSaid line t
 
 -- A line begins with a word.
 pub record WordRead (line : List ℕ) (number : ℕ) (w : WordLine) : Type 0 where
   pub place : IsOn line number w.here w.after
   pub text : squeezed line ≡ word_text w.word ++ rest_of w.after
+  pub over : WordOver (left_of w.after)
+  pub words : Apart (left_of w.after) → words line ≡ word_text w.word ∷ words_of w.after

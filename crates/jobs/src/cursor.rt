@@ -1,6 +1,7 @@
 // Going over a text.
-ghost use Rattle.std.specs.Prelude.{◌≡◌, ◌≤◌, ◌++◌, length, take, drop, IsTrue, IfSome};
-ghost use Rattle.jobs.specs.Signs.{is_space, squeezed, code_of, Numeral};
+ghost use Rattle.std.specs.List.{AllByRecursion};
+ghost use Rattle.std.specs.Prelude.{◌≡◌, ◌≤◌, ◌<◌, ◌++◌, false, length, take, drop, IfSome};
+ghost use Rattle.jobs.specs.Signs.{is_space, ends_word, squeezed, words, WordOver, code_of, Numeral};
 
 use crate::place::{BadText, Place, Sign, Wrong};
 use std::str;
@@ -28,7 +29,7 @@ fn is_space(byte: u8) -> bool
 
 // What ends a word: a space or a sign.
 fn ends_word(byte: u8) -> bool
-    ensures { IsTrue (is_space byte) → IsTrue result }
+    ensures { result ≡ ends_word byte }
 {
     is_space(byte) || matches!(byte, b'(' | b',' | b')')
 }
@@ -37,6 +38,7 @@ fn ends_word(byte: u8) -> bool
 fn count_spaces(bytes: &[u8]) -> usize
     ensures within { result ≤ length bytes.now }
     ensures blank { squeezed (drop result bytes.now) ≡ squeezed bytes.now }
+    ensures apart { words (drop result bytes.now) ≡ words bytes.now }
 {
     for (i, byte) in bytes.iter().enumerate() {
         if !is_space(*byte) {
@@ -50,6 +52,8 @@ fn count_spaces(bytes: &[u8]) -> usize
 fn count_word(bytes: &[u8]) -> usize
     ensures within { result ≤ length bytes.now }
     ensures first { squeezed bytes.now ≡ take result bytes.now ++ squeezed (drop result bytes.now) }
+    ensures whole { AllByRecursion (λ b. ends_word b ≡ false) (take result bytes.now) }
+    ensures over { WordOver (drop result bytes.now) }
 {
     for (i, byte) in bytes.iter().enumerate() {
         if ends_word(*byte) {
@@ -85,7 +89,7 @@ impl<'a> Source<'a> {
 
 impl<'a> Cursor<'a> {
     ghost use Rattle.std.specs.Prelude.{◌+◌, ◌==◌, [], ◌∷◌, MatchResult};
-    ghost use Rattle.jobs.specs.Places.{Within, InText, After, NumberRead, rest_of};
+    ghost use Rattle.jobs.specs.Places.{Within, InText, After, NextWord, NumberRead, left_of, rest_of, words_of};
 
     pub(crate) fn new(source: Source<'a>) -> Cursor<'a>
         ensures source { result.source ≡ source.entry }
@@ -143,7 +147,8 @@ impl<'a> Cursor<'a> {
     }
 
     pub(crate) fn past_spaces(self) -> Cursor<'a>
-        ensures { After self.entry result [] }
+        ensures after { After self.entry result [] }
+        ensures apart { words_of result ≡ words_of self.entry }
     {
         self.past(count_spaces(self.rest()))
     }
@@ -156,7 +161,10 @@ impl<'a> Cursor<'a> {
 
     // The word that starts here, which may be empty, and where it ends.
     pub(crate) fn word(self) -> (&'a [u8], Cursor<'a>)
-        ensures { After self.entry result.1 result.0.now }
+        ensures after { After self.entry result.1 result.0.now }
+        ensures is { left_of self.entry ≡ result.0.now ++ left_of result.1 }
+        ensures whole { AllByRecursion (λ b. ends_word b ≡ false) result.0.now }
+        ensures over { WordOver (left_of result.1) }
     {
         let rest = self.rest();
         let count = count_word(rest);
@@ -214,7 +222,7 @@ impl<'a> Cursor<'a> {
 
     // A name after spaces.
     pub(crate) fn name(self) -> Result<(&'a str, Cursor<'a>), BadText>
-        ensures { MatchResult result (λ r. After self.entry r.1 r.0.now) (λ e. InText self.entry.source e) }
+        ensures { MatchResult result (λ r. NextWord self.entry r.1 r.0.now) (λ e. InText self.entry.source e) }
     {
         let here = self.past_spaces();
         let (word, after) = here.word();
@@ -236,7 +244,7 @@ fn number_in(word: &[u8]) -> Option<u64>
 }
 
 fn name_in(word: &[u8]) -> Option<&str>
-    ensures { IfSome result (λ name. name.now ≡ word.now) }
+    ensures { IfSome result (λ name. (name.now ≡ word.now) × (0 < length word.now)) }
 {
     if word.is_empty() {
         None

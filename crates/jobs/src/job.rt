@@ -1,9 +1,9 @@
 // Reading a job: its head, and then its steps, a line each.
-ghost use Rattle.std.specs.Prelude.{◌≡◌, length, IfErr, IfSome, MatchResult, MatchOption};
+ghost use Rattle.std.specs.Prelude.{◌≡◌, [], ◌∷◌, length, IfErr, IfSome, MatchResult, MatchOption};
 ghost use Rattle.jobs.specs.Heads.{Whole};
-ghost use Rattle.jobs.specs.Places.{OnLine, InText, Counted, rest_of};
-ghost use Rattle.jobs.specs.Signs.{squeezed, Numeral};
-ghost use Rattle.jobs.specs.Steps.{IsBlank, WordRead, Says, Operands, IsEntry, word_text, word_of};
+ghost use Rattle.jobs.specs.Places.{OnLine, InText, Counted, left_of, words_of};
+ghost use Rattle.jobs.specs.Signs.{WordOver, Apart};
+ghost use Rattle.jobs.specs.Steps.{IsBlank, WordRead, Says, Operands, IsEntry, IsRow, word_text, word_of};
 
 use crate::cursor::{Cursor, Source};
 use crate::parse::whole;
@@ -89,7 +89,7 @@ fn word_of(word: &[u8]) -> Option<LineWord>
 
 // The word of a line, or None where the line is empty or a comment.
 fn word_line(line: &str, number: usize) -> Result<Option<WordLine<'_>>, BadText>
-    ensures { MatchResult result (λ l. MatchOption l (IsBlank (squeezed line.now)) (λ w. WordRead line.now number w)) (λ e. OnLine number 1 (length line.now) e.place) }
+    ensures { MatchResult result (λ l. MatchOption l (IsBlank line.now) (λ w. WordRead line.now number w)) (λ e. OnLine number 1 (length line.now) e.place) }
 {
     let start = Place {
         line: number,
@@ -109,8 +109,9 @@ fn word_line(line: &str, number: usize) -> Result<Option<WordLine<'_>>, BadText>
 
 // The step on a line of this number, or None where the line is empty or a comment. A line of the head is refused: it belongs
 // before the first step.
+#[tactic(auto, using(crate::proofs::Wording::step_said))]
 pub fn read_step(line: &str, number: usize) -> Result<Option<Step<'_>>, BadText>
-    ensures { MatchResult result (λ step. Says (squeezed line.now) step) (λ e. OnLine number 1 (length line.now) e.place) }
+    ensures { MatchResult result (λ step. Says line.now step) (λ e. OnLine number 1 (length line.now) e.place) }
 {
     let Some(found) = word_line(line, number)? else {
         return Ok(None);
@@ -123,7 +124,8 @@ pub fn read_step(line: &str, number: usize) -> Result<Option<Step<'_>>, BadText>
 
 // The step of this word, whose operands stand after it.
 fn step_of(word: StepWord, after: Cursor<'_>) -> Result<Step<'_>, BadText>
-    ensures { MatchResult result (λ step. (word_of step ≡ word) × Operands (rest_of after.entry) step) (λ e. InText after.entry.source e) }
+    requires over { WordOver (left_of after) }
+    ensures { MatchResult result (λ step. (word_of step ≡ word) × Apart (left_of after.entry) × Operands (words_of after.entry) step) (λ e. InText after.entry.source e) }
 {
     match word {
         StepWord::Rows => Ok(Step::Rows(file_of(after)?)),
@@ -140,7 +142,8 @@ fn step_of(word: StepWord, after: Cursor<'_>) -> Result<Step<'_>, BadText>
 }
 
 fn file_of(after: Cursor<'_>) -> Result<&str, BadText>
-    ensures { MatchResult result (λ name. rest_of after.entry ≡ name.now) (λ e. InText after.entry.source e) }
+    requires over { WordOver (left_of after) }
+    ensures { MatchResult result (λ name. Apart (left_of after.entry) × (words_of after.entry ≡ name.now ∷ [])) (λ e. InText after.entry.source e) }
 {
     let (name, after) = after.name()?;
     after.finish()?;
@@ -148,7 +151,8 @@ fn file_of(after: Cursor<'_>) -> Result<&str, BadText>
 }
 
 fn row_of(after: Cursor<'_>) -> Result<usize, BadText>
-    ensures { MatchResult result (λ row. Numeral (rest_of after.entry) row) (λ e. InText after.entry.source e) }
+    requires over { WordOver (left_of after) }
+    ensures { MatchResult result (λ row. Apart (left_of after.entry) × IsRow (words_of after.entry) row) (λ e. InText after.entry.source e) }
 {
     let (row, after) = after.count()?;
     after.finish()?;
@@ -156,7 +160,8 @@ fn row_of(after: Cursor<'_>) -> Result<usize, BadText>
 }
 
 fn entry_of(after: Cursor<'_>) -> Result<Entry, BadText>
-    ensures { MatchResult result (λ entry. IsEntry (rest_of after.entry) entry) (λ e. InText after.entry.source e) }
+    requires over { WordOver (left_of after) }
+    ensures { MatchResult result (λ entry. Apart (left_of after.entry) × IsEntry (words_of after.entry) entry) (λ e. InText after.entry.source e) }
 {
     let (row, after) = after.count()?;
     let (column, after) = after.count()?;
@@ -207,6 +212,7 @@ impl Found {
         after: Cursor<'_>,
     ) -> Result<(), BadText>
         requires same { after.source ≡ here.source }
+        requires over { WordOver (left_of after) }
         requires good { Good self.old }
         ensures { MatchResult result (λ _. Good self.new) (λ e. InText here.entry.source e) }
     {
@@ -262,6 +268,7 @@ fn needed<T: Drop>(found: Option<T>, word: HeadWord, lines: usize) -> Result<T, 
 }
 
 fn letters(heap: Global, after: Cursor<'_>) -> Result<Vec<char>, BadText>
+    requires over { WordOver (left_of after) }
     ensures { IfErr result (λ e. InText after.entry.source e) }
 {
     let letters = file_of(after)?;

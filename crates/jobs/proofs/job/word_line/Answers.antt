@@ -1,7 +1,10 @@
-use Rattle.std.proofs.Common.{◌≡◌, ap, sym, ◌∙◌, drop, inl}
-use Rattle.jobs.specs.Places.{rest_of}
-use Rattle.jobs.specs.Signs.{squeezed}
+use Rattle.std.proofs.Common.{◌≡◌, ◌∷◌, ◌++◌, ◌<◌, length, ap, sym, ◌∙◌, drop, inl, subst}
+use Rattle.jobs.specs.Places.{left_of, rest_of, words_of}
+use Rattle.jobs.specs.Signs.{squeezed, words}
+use Rattle.jobs.specs.declared.cursor.Source.{Source}
+use Rattle.jobs.specs.declared.place.Place.{Place}
 use Rattle.jobs.proofs.Squeezed.{at_the_end}
+use Rattle.jobs.proofs.Wording.{first_word, word_text_some}
 use Rattle.jobs.proofs.job.word_line.Goals as goal
 
 pub returns-then-is_end : goal.returns-then-is_end
@@ -10,4 +13,27 @@ returns-then-is_end c =
     let here = c.past_spaces-here.result in
     let text : rest_of start ≡ squeezed c.args.line.now =
     ap (λ k. squeezed (drop k start.source.bytes.now)) c.new-2.ensures.at ∙ ap (λ z. squeezed z.bytes.now) c.new-2.ensures.source ∙ ap squeezed c.new.ensures.bytes in
-    inl (sym text ∙ c.past_spaces-here.ensures.text ∙ at_the_end here.source.bytes.now here.at (sym c.is_end.ensures ∙ c.if-is_end.true))
+    inl (sym text ∙ c.past_spaces-here.ensures.after.text ∙ at_the_end here.source.bytes.now here.at (sym c.is_end.ensures ∙ c.if-is_end.true))
+
+pub returns : goal.returns
+returns c =
+    let start = c.new-2.result in
+    let word = c.word.ensures in
+    let line : left_of start ≡ c.args.line.now =
+    ap (λ k. drop k start.source.bytes.now) c.new-2.ensures.at ∙ ap (λ (z : Source). z.bytes.now) c.new-2.ensures.source ∙ c.new.ensures.bytes in
+    let gap = c.past_spaces-here.ensures in
+    let source = gap.after.same ∙ c.new-2.ensures.source in
+    let named = rw c.in_ok-word.ensures at c.word_of.ensures in
+    let some : 0 < length c.word.result.0.now = subst (λ z. 0 < length z) (sym named) (word_text_some c.in_ok-word.word) in
+    record {
+      place = record {
+        bytes = ap (λ (z : Source). z.bytes.now) source ∙ c.new.ensures.bytes;
+        on = ap (λ (z : Source). z.start.line) source ∙ ap (λ (p : Place). p.line) c.new.ensures.start;
+        from = ap (λ (z : Source). z.start.column) source ∙ ap (λ (p : Place). p.column) c.new.ensures.start;
+        same = word.after.same;
+      };
+      text = sym (ap squeezed line) ∙ gap.after.text ∙ word.after.text ∙ ap (λ z. z ++ rest_of c.word.result.1) named;
+      over = word.over;
+      words = λ apart. first_word c.args.line.now start c.past_spaces-here.result c.word.result.1 c.word.result.0.now (ap words line) gap.apart word.is word.whole some apart
+          ∙ ap (λ z. z ∷ words_of c.word.result.1) named;
+    }

@@ -15,5 +15,5 @@ pile-returns-clause-read t c =
     let name = rw c.in_ok-form.ensures at c.form_of.ensures in
     let less = rw c.in_ok-below.ensures at c.checked_sub.ensures in
     let below : c.in_ok-below.below + 1 ≡ c.args.depth = omega (arith, less.0, less.1) in
-    pile_read _ _ _ _ _ _ _ _ _ _ _ _ c.past_spaces-here.ensures c.word.ensures name c.in_ok-past_sign.ensures c.in_ok-written.ensures.read below
+    pile_read _ _ _ _ _ _ _ _ _ _ _ _ c.past_spaces-here.ensures.after c.word.ensures.after name c.in_ok-past_sign.ensures c.in_ok-written.ensures.read below
     c.in_ok-past_sign-2.ensures

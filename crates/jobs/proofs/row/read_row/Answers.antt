@@ -15,13 +15,13 @@ returns-then-is_end c =
     ∙ ap squeezed c.new.ensures.bytes in
     let end = c.past_spaces-end.result in
     subst (λ z. Row z c.push.new.self.items) text
-    (so_far_all _ _ _ _ _ _ _ c.loop-next.invariant.so_far c.in_ok-next.ensures push c.past_spaces-end.ensures
+    (so_far_all _ _ _ _ _ _ _ c.loop-next.invariant.so_far c.in_ok-next.ensures push c.past_spaces-end.ensures.after
     (at_the_end end.source.bytes.now end.at (sym c.is_end.ensures ∙ c.if-is_end.true)))
 
 pub loop-next-preserved : goal.loop-next-preserved
 loop-next-preserved c =
     let push : c.push.new.self.items ≡ c.loop-next.numbers.items ++ (c.in_ok-next.next ∷ []) = rw c.if-is_err.ensures.negation at c.push.ensures.items in
     record {
-      same = c.in_ok-cursor.ensures.same ∙ c.past_spaces-end.ensures.same ∙ c.in_ok-next.ensures.after.same ∙ c.loop-next.invariant.same;
-      so_far = so_far_more _ _ _ _ _ _ _ _ c.loop-next.invariant.so_far c.in_ok-next.ensures push c.past_spaces-end.ensures c.in_ok-cursor.ensures;
+      same = c.in_ok-cursor.ensures.same ∙ c.past_spaces-end.ensures.after.same ∙ c.in_ok-next.ensures.after.same ∙ c.loop-next.invariant.same;
+      so_far = so_far_more _ _ _ _ _ _ _ _ c.loop-next.invariant.so_far c.in_ok-next.ensures push c.past_spaces-end.ensures.after c.in_ok-cursor.ensures;
     }

@@ -5,4 +5,4 @@ use Rattle.jobs.proofs.cursor.Cursor.finish.Goals as goal
 pub returns-then-is_end : goal.returns-then-is_end
 returns-then-is_end c =
     let here = c.past_spaces-here.result in
-    c.past_spaces-here.ensures.text ∙ at_the_end here.source.bytes.now here.at (sym c.is_end.ensures ∙ c.if-is_end.true)
+    c.past_spaces-here.ensures.after.text ∙ at_the_end here.source.bytes.now here.at (sym c.is_end.ensures ∙ c.if-is_end.true)
