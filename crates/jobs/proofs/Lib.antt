@@ -2,3 +2,4 @@ pub mod Squeezed
 pub mod Wording
 pub mod Reading
 pub mod Rowing
+pub mod Heading

@@ -1,12 +1,11 @@
 -- What is read part by part is what the whole spells.
-use Rattle.std.proofs.Common.{◌≡◌, ℕ, zero, suc, ◌+◌, ◌<◌, ◌≤◌, Box, Bool, true, String, length, drop, get_or, map, List, [], ◌∷◌, ◌++◌, Some, None, Option, Ok, Err, Result, MatchResult, refl, ap, sym, subst, ◌∙◌, append_assoc, arith}
+use Rattle.std.proofs.Common.{◌≡◌, ℕ, zero, suc, ◌+◌, ◌<◌, ◌≤◌, Box, Bool, true, String, length, drop, get_or, map, List, [], ◌∷◌, ◌++◌, Some, Ok, Err, Result, MatchResult, refl, ap, sym, subst, ◌∙◌, append_assoc, arith}
 use Rattle.std.proofs.lemmas.Option.{slice_get-map, slice_get_read}
 use Rattle.std.proofs.lemmas.Slice.Eq.{bytes_eq-Decides}
 use Rattle.std.specs.Option.{option_map}
 use Rattle.std.specs.Prelude.{slice_get, string_bytes}
 use Rattle.std.specs.Str.{bytes_eq}
 use Rattle.std.specs.declared.alloc.Global.{Global}
-use Rattle.jobs.specs.Heads.{ReadIf}
 use Rattle.jobs.specs.Places.{After, NumberRead, rest_of, InText, OnLine}
 use Rattle.jobs.specs.Signs.{squeezed}
 use Rattle.jobs.specs.Parsed.{Grown, Inside, Said, PileRead, InsideRead, NameRead, called, form_name, form_of}
@@ -54,7 +53,7 @@ inside_more xs more s (Chain' x first y then) (a, b, is, p, q) = (a, b, is, insi
 inside_more xs more s (Turned' x below) (a, is, p) = (a, is, inside_more xs more a below p)
 inside_more xs more s (Narrowed' x below to) (a, b, is, p, q) = (a, b, is, inside_more xs more a below p, q)
 
-inside_grown : (xs ys : List (List ℕ)) (s : List ℕ) (w : Written) → Grown xs ys → Inside xs s w → Inside ys s w
+pub inside_grown : (xs ys : List (List ℕ)) (s : List ℕ) (w : Written) → Grown xs ys → Inside xs s w → Inside ys s w
 inside_grown xs ys s w g h = subst (λ z. Inside z s w) (sym g.is) (inside_more xs g.more s w h)
 
 pub grown_twice : (xs ys zs : List (List ℕ)) → Grown xs ys → Grown ys zs → Grown xs zs
@@ -162,15 +161,3 @@ from_start names n (Err e) c s text p same at bytes start h =
     let column : c.source.start.column ≡ p.column = ap (λ z. z.start.column) same ∙ ap (λ z. z.column) start in
     let long : length c.source.bytes.now ≡ length text = ap (λ z. length z.bytes.now) same ∙ ap length bytes in
     record { same_line = h.same_line ∙ line; from = omega (arith, h.from); to = omega (arith, h.to) }
-
--- ---- heads
-
-pub read_grown : (xs ys : List (List ℕ)) (o : Option Written) → Grown xs ys → ReadIf xs o → ReadIf ys o
-read_grown xs ys None g h = tt
-read_grown xs ys (Some w) g (s, said) = (
-  s,
-  record {
-    spelt = record { within = said.spelt.within; is = said.spelt.is; inside = inside_grown xs ys said.spelt.within w g said.spelt.inside };
-    low = said.low;
-  },
-)

@@ -19,11 +19,11 @@ use Rattle.jobs.specs.declared.place.HeadWord.TheVariants as head
 abbrev parts : List ℕ → List (List ℕ)
 parts s = slice_split is_space s
 
-words_are : (s : List ℕ) → words s ≡ filter has_bytes (parts s)
+pub words_are : (s : List ℕ) → words s ≡ filter has_bytes (parts s)
 unfolding words
 words_are s = refl
 
-words_space : (b : ℕ) (s : List ℕ) → is_space b ≡ true → words (b ∷ s) ≡ words s
+pub words_space : (b : ℕ) (s : List ℕ) → is_space b ≡ true → words (b ∷ s) ≡ words s
 words_space b s e = words_are (b ∷ s) ∙ ap (filter has_bytes) (slice_split-cons_yes is_space b s e) ∙ sym (words_are s)
 
 -- a space at i

@@ -1,22 +1,126 @@
--- What is known of the head of a job.
-use Rattle.std.specs.Prelude.{ℕ, List, Option, Some, None}
+-- What the lines of a job's head say.
+use Rattle.std.specs.List.{AllByRecursion, concat, filter_map}
+use Rattle.std.specs.Option.{is_some}
+use Rattle.std.specs.Prelude.{◌≡◌, ℕ, ◌-◌, ◌≤◌, ◌⊎◌, Bool, true, false, cond, List, [], ◌∷◌, ◌++◌, length, take, drop, Option, Some, None}
+use Rattle.std.specs.Str.{bytes_eq, chars}
+use Rattle.std.specs.declared.alloc.Global.{Global}
+use Rattle.std.specs.declared.vec.Vec.{Vec}
 use Rattle.jobs.specs.Parsed.{Said, texts}
+use Rattle.jobs.specs.Places.{Counted}
+use Rattle.jobs.specs.Signs.{squeezed, words, WordOver}
+use Rattle.jobs.specs.Steps.{IsBlank, IsRow, head_text, step_text}
 use Rattle.jobs.specs.declared.job.Found.{Found}
 use Rattle.jobs.specs.declared.job.Head.{Head}
+use Rattle.jobs.specs.declared.job.StepWord.{StepWord}
+use Rattle.jobs.specs.declared.place.BadText.{BadText}
+use Rattle.jobs.specs.declared.place.HeadWord.{HeadWord}
+use Rattle.jobs.specs.declared.place.HeadWord.TheVariants.{Yarn, Hands, Roles, Records}
+use Rattle.jobs.specs.declared.place.Wrong.{Wrong}
+use Rattle.jobs.specs.declared.place.Wrong.TheVariants.{MissingLine, TwiceGiven, UnknownWord}
 use Rattle.jobs.specs.declared.written.Written.{Written}
 
--- Some text spells the pile, with files of the list and at most 1000 layers above one another.
-abbrev pub Read : List (List ℕ) → Written → Type 0
-Read names w = (s : List ℕ) × Said names 1000 s w
+-- Of the words of a line, those behind the first, if that is this one.
+abbrev pub behind : List ℕ → List (List ℕ) → Option (List (List ℕ))
+behind w [] = None
+behind w (v ∷ vs) = cond (bytes_eq v w) (Some vs) None
 
-abbrev pub ReadIf : List (List ℕ) → Option Written → Type 0
-ReadIf names None = Unit {0}
-ReadIf names (Some w) = Read names w
+abbrev pub some_of : List (List (List ℕ)) → Bool
+some_of [] = false
+some_of (ws ∷ more) = true
 
-pub record Good (f : Found) : Type 0 where
-  pub yarn : ReadIf (texts f.files) f.yarn
-  pub hands : ReadIf (texts f.files) f.hands
+-- What stands behind a word of the head on each of these lines that begins with it.
+abbrev pub given : HeadWord → List (List ℕ) → List (List (List ℕ))
+given h ls = filter_map (λ line. behind (head_text h) (words line)) ls
 
-pub record Whole (h : Head) : Type 0 where
-  pub yarn : Read (texts h.files) h.yarn
-  pub hands : Read (texts h.files) h.hands
+-- The words, put together, spell a pile of at most 1000 layers with files of the list.
+abbrev pub SpellsPile : List (List ℕ) → List (List ℕ) → Written → Type 0
+SpellsPile names ws w = Said names 1000 (concat ws) w
+
+-- The words are one, whose characters are the roles.
+abbrev pub SpellsRoles : List (List ℕ) → Vec ℕ Global → Type 0
+SpellsRoles ws v = (letters : List ℕ) × (ws ≡ letters ∷ []) × (v.items ≡ chars letters)
+
+-- What was found is what the one line says that gives it; or there is no such line, and nothing was found.
+abbrev pub Once : {T : Type 0} → (List (List ℕ) → T → Type 0) → List (List (List ℕ)) → Option T → Type 0
+Once says g None = g ≡ []
+Once says g (Some x) = (ws : List (List ℕ)) × (g ≡ ws ∷ []) × says ws x
+
+-- A line begins with this word, and the word goes no further.
+pub record Begins (w line : List ℕ) : Type 0 where
+  pub behind : List ℕ
+  pub is : squeezed line ≡ w ++ squeezed behind
+  pub over : WordOver behind
+
+-- A line of the head, or one that says nothing.
+abbrev pub OfHead : List ℕ → Type 0
+OfHead line = IsBlank line ⊎ ((h : HeadWord) × Begins (head_text h) line)
+
+-- These lines are right as lines of a head, each given once at most, and say this.
+pub record Good (ls : List (List ℕ)) (f : Found) : Type 0 where
+  pub yarn : Once (SpellsPile (texts f.files)) (given Yarn ls) f.yarn
+  pub hands : Once (SpellsPile (texts f.files)) (given Hands ls) f.hands
+  pub roles : Once SpellsRoles (given Roles ls) f.roles
+  pub records : Once IsRow (given Records ls) f.records
+  pub only : AllByRecursion OfHead ls
+
+abbrev pub has_line : Found → HeadWord → Bool
+has_line f Yarn = is_some f.yarn
+has_line f Hands = is_some f.hands
+has_line f Roles = is_some f.roles
+has_line f Records = is_some f.records
+
+-- The head is over: no line follows, or a step does.
+abbrev pub Over : List (List ℕ) → Type 0
+Over [] = Unit {0}
+Over (line ∷ ls) = (s : StepWord) × Begins (step_text s) line
+
+-- A line was taken in; or it is a step, and nothing was.
+abbrev pub Taken : List ℕ → Found → Found → Bool → Type 0
+Taken line old new false = (ls : List (List ℕ)) → Good ls old → Good (ls ++ (line ∷ [])) new
+Taken line old new true = (new ≡ old) × Over (line ∷ [])
+
+-- Why a line ends the job: no line of a job begins as it does; or it is one of the head, and wrong, as it is where it was given.
+abbrev pub LineWrong : List ℕ → (HeadWord → Bool) → Wrong → Type 0
+LineWrong line had w = (w ≡ UnknownWord) ⊎ ((h : HeadWord) × Begins (head_text h) line × (had h ≡ true → w ≡ TwiceGiven))
+
+-- What was found, where all was.
+pub record Holds (f : Found) (n : ℕ) (h : Head) : Type 0 where
+  pub yarn : f.yarn ≡ Some h.yarn
+  pub hands : f.hands ≡ Some h.hands
+  pub files : h.files ≡ f.files
+  pub roles : f.roles ≡ Some h.roles
+  pub records : f.records ≡ Some h.records
+  pub lines : h.lines ≡ n
+
+-- A job of these lines has this head: it is as long as it says, each of its four lines stands in it once, and says this, and
+-- all other lines in it are empty or comments.
+pub record Whole (ls : List (List ℕ)) (h : Head) : Type 0 where
+  pub yarn : Once (SpellsPile (texts h.files)) (given Yarn (take h.lines ls)) (Some h.yarn)
+  pub hands : Once (SpellsPile (texts h.files)) (given Hands (take h.lines ls)) (Some h.hands)
+  pub roles : Once SpellsRoles (given Roles (take h.lines ls)) (Some h.roles)
+  pub records : Once IsRow (given Records (take h.lines ls)) (Some h.records)
+  pub only : AllByRecursion OfHead (take h.lines ls)
+  pub long : h.lines ≤ length ls
+  pub over : Over (drop h.lines ls)
+
+-- The head is over, and has no such line.
+pub record Lacks (before from : List (List ℕ)) (w : Wrong) : Type 0 where
+  pub word : HeadWord
+  pub is : w ≡ MissingLine word
+  pub none : given word before ≡ []
+  pub over : Over from
+
+abbrev pub is_given : List (List ℕ) → HeadWord → Bool
+is_given ls h = some_of (given h ls)
+
+-- The first line here is wrong as a line of a head.
+abbrev pub FirstWrong : List (List ℕ) → List (List ℕ) → Wrong → Type 0
+FirstWrong before [] w = ⊥
+FirstWrong before (line ∷ ls) w = LineWrong line (is_given before) w
+
+-- A job of these lines has no head, and this is its first fault: all lines before it are right; it is of a line of the head
+-- that is missing where the head is over, or of the line that stands there.
+pub record Spoilt (ls : List (List ℕ)) (e : BadText) : Type 0 where
+  pub counted : Counted e.place
+  pub before : (f : Found) × Good (take (e.place.line - 1) ls) f
+  pub why : Lacks (take (e.place.line - 1) ls) (drop (e.place.line - 1) ls) e.wrong ⊎ FirstWrong (take (e.place.line - 1) ls) (drop (e.place.line - 1) ls) e.wrong

@@ -1,8 +1,12 @@
 // Reading a job: its head, and then its steps, a line each.
-ghost use Rattle.std.specs.Prelude.{◌≡◌, [], ◌∷◌, length, IfErr, IfSome, MatchResult, MatchOption};
-ghost use Rattle.jobs.specs.Heads.{Whole};
-ghost use Rattle.jobs.specs.Places.{OnLine, InText, Counted, left_of, words_of};
-ghost use Rattle.jobs.specs.Signs.{WordOver, Apart};
+ghost use Rattle.std.specs.Prelude.{◌≡◌, ◌+◌, ◌<◌, ◌^◌, ◌++◌, [], ◌∷◌, true, false, length, IfOk, IfSome, MatchResult, MatchOption};
+ghost use Rattle.std.specs.Str.{chars};
+ghost use Rattle.std.specs.Str.Lines.{lines as lines_of};
+ghost use Rattle.jobs.specs.Heads.{SpellsRoles, Whole, Spoilt};
+ghost use Rattle.jobs.specs.declared.place.HeadWord.{HeadWord as HeadWordOf};
+ghost use Rattle.jobs.specs.declared.place.Wrong.TheVariants.{MissingLine, TwiceGiven, UnknownWord};
+ghost use Rattle.jobs.specs.Places.{OnLine, InText, left_of, rest_of, words_of};
+ghost use Rattle.jobs.specs.Signs.{squeezed, words, WordOver, Apart};
 ghost use Rattle.jobs.specs.Steps.{IsBlank, WordRead, Says, Operands, IsEntry, IsRow, word_text, word_of};
 
 use crate::cursor::{Cursor, Source};
@@ -10,7 +14,7 @@ use crate::parse::whole;
 use crate::place::{BadText, HeadWord, Place, Wrong};
 use crate::written::Written;
 use book::entry::Entry;
-use std::alloc::Global;
+use std::alloc::{AllocError, Global};
 
 // What a job says of its release before the first step.
 #[derive(Drop)]
@@ -89,7 +93,7 @@ fn word_of(word: &[u8]) -> Option<LineWord>
 
 // The word of a line, or None where the line is empty or a comment.
 fn word_line(line: &str, number: usize) -> Result<Option<WordLine<'_>>, BadText>
-    ensures { MatchResult result (λ l. MatchOption l (IsBlank line.now) (λ w. WordRead line.now number w)) (λ e. OnLine number 1 (length line.now) e.place) }
+    ensures { MatchResult result (λ l. MatchOption l (IsBlank line.now) (λ w. WordRead line.now number w)) (λ e. OnLine number 1 (length line.now) e.place × (e.wrong ≡ UnknownWord)) }
 {
     let start = Place {
         line: number,
@@ -103,8 +107,10 @@ fn word_line(line: &str, number: usize) -> Result<Option<WordLine<'_>>, BadText>
     if !word.is_empty() && word[0] == b'#' {
         return Ok(None);
     }
-    let word = here.given(word_of(word), Wrong::UnknownWord)?;
-    Ok(Some(WordLine { word, here, after }))
+    match word_of(word) {
+        Some(word) => Ok(Some(WordLine { word, here, after })),
+        None => Err(here.bad(Wrong::UnknownWord)),
+    }
 }
 
 // The step on a line of this number, or None where the line is empty or a comment. A line of the head is refused: it belongs
@@ -180,10 +186,11 @@ struct Found {
 }
 
 impl Found {
-    ghost use Rattle.jobs.specs.Heads.{Good};
+    ghost use Rattle.jobs.specs.Heads.{Good, Holds, Taken, LineWrong, has_line};
+    ghost use Rattle.jobs.specs.Steps.{head_text};
 
     fn nothing(heap: Global) -> Found
-        ensures { Good result }
+        ensures { Good [] result }
     {
         Found {
             yarn: None,
@@ -194,12 +201,30 @@ impl Found {
         }
     }
 
-    fn has(&self, word: HeadWord) -> bool {
+    fn has(&self, word: HeadWord) -> bool
+        ensures { result ≡ has_line self.now word }
+    {
         match word {
             HeadWord::Yarn => self.yarn.is_some(),
             HeadWord::Hands => self.hands.is_some(),
             HeadWord::Roles => self.roles.is_some(),
             HeadWord::Records => self.records.is_some(),
+        }
+    }
+
+    // Takes a line of this number in. Answers whether the head is over: the line is a step, and was left alone.
+    fn take_line(&mut self, heap: Global, line: &str, number: usize) -> Result<bool, BadText>
+        ensures { MatchResult result (λ over. Taken line.now self.old self.new over) (λ e. OnLine number 1 (length line.now) e.place × LineWrong line.now (has_line self.old) e.wrong) }
+    {
+        let Some(next) = word_line(line, number)? else {
+            return Ok(false);
+        };
+        match next.word {
+            LineWord::Head(word) => {
+                self.put(heap, word, next.here, next.after)?;
+                Ok(false)
+            }
+            LineWord::Step(_) => Ok(true),
         }
     }
 
@@ -212,9 +237,10 @@ impl Found {
         after: Cursor<'_>,
     ) -> Result<(), BadText>
         requires same { after.source ≡ here.source }
+        requires text { squeezed here.source.bytes.now ≡ head_text word ++ rest_of after }
         requires over { WordOver (left_of after) }
-        requires good { Good self.old }
-        ensures { MatchResult result (λ _. Good self.new) (λ e. InText here.entry.source e) }
+        requires words { Apart (left_of after) → words here.source.bytes.now ≡ head_text word ∷ words_of after }
+        ensures { MatchResult result (λ _. Taken here.entry.source.bytes.now self.old self.new false) (λ e. InText here.entry.source e × (has_line self.old word ≡ true → e.wrong ≡ TwiceGiven)) }
     {
         if self.has(word) {
             return Err(here.bad(Wrong::TwiceGiven));
@@ -230,8 +256,8 @@ impl Found {
 
     // The head, if it ends at this line.
     fn head(self, lines: usize) -> Result<Head, BadText>
-        requires { Good self }
-        ensures { MatchResult result (λ head. Whole head) (λ e. Counted e.place) }
+        requires { lines + 1 < 2 ^ 64 }
+        ensures { MatchResult result (λ head. Holds self lines head) (λ e. (word : HeadWordOf) × (has_line self word ≡ false) × (e.wrong ≡ MissingLine word) × (e.place.line ≡ lines + 1) × (e.place.column ≡ 1)) }
     {
         let Found {
             yarn,
@@ -253,13 +279,14 @@ impl Found {
 
 // What a head of so many lines needs.
 fn needed<T: Drop>(found: Option<T>, word: HeadWord, lines: usize) -> Result<T, BadText>
-    ensures { MatchResult result (λ x. found ≡ Some x) (λ e. Counted e.place) }
+    requires { lines + 1 < 2 ^ 64 }
+    ensures { MatchResult result (λ x. found ≡ Some x) (λ e. (found ≡ None) × (e.wrong ≡ MissingLine word) × (e.place.line ≡ lines + 1) × (e.place.column ≡ 1)) }
 {
     match found {
         Some(x) => Ok(x),
         None => Err(BadText {
             place: Place {
-                line: lines.saturating_add(1),
+                line: lines + 1,
                 column: 1,
             },
             wrong: Wrong::MissingLine(word),
@@ -269,29 +296,32 @@ fn needed<T: Drop>(found: Option<T>, word: HeadWord, lines: usize) -> Result<T, 
 
 fn letters(heap: Global, after: Cursor<'_>) -> Result<Vec<char>, BadText>
     requires over { WordOver (left_of after) }
-    ensures { IfErr result (λ e. InText after.entry.source e) }
+    ensures { MatchResult result (λ v. Apart (left_of after.entry) × SpellsRoles (words_of after.entry) v) (λ e. InText after.entry.source e) }
 {
     let letters = file_of(after)?;
-    match letters.chars().collect(heap) {
+    match chars_of(heap, letters) {
         Ok(letters) => Ok(letters),
         Err(_) => Err(after.bad(Wrong::NoMemory)),
     }
 }
 
+fn chars_of(heap: Global, text: &str) -> Result<Vec<char>, AllocError>
+    ensures { IfOk result (λ v. v.items ≡ chars text.now) }
+{
+    text.chars().collect(heap)
+}
+
 // The head of a job: every line before the first step, each once and in any order.
 pub fn read_head(heap: Global, text: &str) -> Result<Head, BadText>
-    ensures { MatchResult result (λ head. Whole head) (λ e. Counted e.place) }
+    ensures { MatchResult result (λ head. Whole (lines_of text.now) head) (λ e. Spoilt (lines_of text.now) e) }
 {
     let mut found = Found::nothing(heap);
-    let mut lines: usize = 0;
+    let mut lines = 0;
     for line in text.lines() {
-        if let Some(next) = word_line(line, lines.saturating_add(1))? {
-            match next.word {
-                LineWord::Head(word) => found.put(heap, word, next.here, next.after)?,
-                LineWord::Step(_) => break,
-            }
+        if found.take_line(heap, line, lines + 1)? {
+            return found.head(lines);
         }
-        lines = lines.saturating_add(1);
+        lines += 1;
     }
     found.head(lines)
 }

@@ -15,16 +15,16 @@ returns-then-is_end c =
     ap (λ k. squeezed (drop k start.source.bytes.now)) c.new-2.ensures.at ∙ ap (λ z. squeezed z.bytes.now) c.new-2.ensures.source ∙ ap squeezed c.new.ensures.bytes in
     inl (sym text ∙ c.past_spaces-here.ensures.after.text ∙ at_the_end here.source.bytes.now here.at (sym c.is_end.ensures ∙ c.if-is_end.true))
 
-pub returns : goal.returns
-returns c =
+pub returns-in-Some : goal.returns-in-Some
+returns-in-Some c =
     let start = c.new-2.result in
     let word = c.word.ensures in
     let line : left_of start ≡ c.args.line.now =
     ap (λ k. drop k start.source.bytes.now) c.new-2.ensures.at ∙ ap (λ (z : Source). z.bytes.now) c.new-2.ensures.source ∙ c.new.ensures.bytes in
     let gap = c.past_spaces-here.ensures in
     let source = gap.after.same ∙ c.new-2.ensures.source in
-    let named = rw c.in_ok-word.ensures at c.word_of.ensures in
-    let some : 0 < length c.word.result.0.now = subst (λ z. 0 < length z) (sym named) (word_text_some c.in_ok-word.word) in
+    let named = c.in-Some.ensures in
+    let some : 0 < length c.word.result.0.now = subst (λ z. 0 < length z) (sym named) (word_text_some c.in-Some.word) in
     record {
       place = record {
         bytes = ap (λ (z : Source). z.bytes.now) source ∙ c.new.ensures.bytes;
