@@ -4,8 +4,6 @@ ghost use Rattle.jobs.specs.Building.{Answers};
 ghost use Rattle.jobs.specs.Leaves.{leaf_means};
 ghost use Rattle.jobs.specs.Refused.{PlusRefused, CipherRefused};
 ghost use Rattle.jobs.specs.Written.{bytes_at, IsPlus, IsCipherOf};
-ghost use Rattle.spelling.specs.Spelling.{Spells, FirstNo};
-ghost use Rattle.spelling.specs.declared.fault.Fault.{Fault};
 
 use crate::built::Built;
 use crate::leaf::Leaf;
@@ -13,9 +11,7 @@ use crate::unbuilt::Unbuilt;
 use crate::written::Written;
 use codings::clear::Clear;
 use codings::plus::Plus;
-use draft::draft::Draft;
-use draft::read::read;
-use kcipher::make::make;
+use kcipher::bytes::{NoCipher, cipher_of};
 use std::alloc::Global;
 
 // The pile that is written, over these files, or what refuses it.
@@ -51,20 +47,10 @@ fn cipher(files: &[Vec<u8>], draft: usize, key: usize) -> Result<Leaf, Unbuilt>
 {
     let draft_bytes = file(files, draft)?;
     let key_bytes = file(files, key)?;
-    let draft = draft_of(draft_bytes, draft)?;
-    let mut work = [0; 24];
-    match make(&draft, key_bytes, &mut work) {
+    match cipher_of(draft_bytes, key_bytes) {
         Ok(coding) => Ok(Leaf::Cipher(coding)),
-        Err(refusal) => Err(Unbuilt::Key(key, refusal)),
-    }
-}
-
-fn draft_of(bytes: &[u8], place: usize) -> Result<Draft, Unbuilt>
-    ensures { MatchResult result (λ d. Spells bytes.now d.parts) (λ e. (fault : Fault) × (e ≡ Unbuilt.Draft place fault) × FirstNo bytes.now fault) }
-{
-    match read(bytes) {
-        Ok(draft) => Ok(draft),
-        Err(fault) => Err(Unbuilt::Draft(place, fault)),
+        Err(NoCipher::Draft(fault)) => Err(Unbuilt::Draft(draft, fault)),
+        Err(NoCipher::Key(refusal)) => Err(Unbuilt::Key(key, refusal)),
     }
 }
 
