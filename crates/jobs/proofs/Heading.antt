@@ -15,11 +15,11 @@ use Rattle.std.specs.declared.vec.Vec.{Vec}
 use Rattle.jobs.proofs.Reading.{inside_grown}
 use Rattle.jobs.proofs.Squeezed.{squeezed_nil, squeezed_cons}
 use Rattle.jobs.proofs.Wording.{words_are, words_space, no_words, apart_letter}
-use Rattle.jobs.specs.Heads.{behind, given, some_of, is_given, SpellsPile, SpellsRoles, Once, Begins, OfHead, Good, Holds, Over, Whole, Lacks, FirstWrong, LineWrong, Spoilt, Taken, has_line}
+use Rattle.jobs.specs.Heads.{behind, given, some_of, is_given, SpellsPile, SpellsRoles, Once, OfHead, Good, Holds, Over, Whole, Lacks, FirstWrong, LineWrong, Spoilt, Taken, has_line}
 use Rattle.jobs.specs.Parsed.{Grown, Said, Spelt, texts}
 use Rattle.jobs.specs.Places.{OnLine}
 use Rattle.jobs.specs.Signs.{is_space, has_bytes, squeezed, words, WordOver, Apart}
-use Rattle.jobs.specs.Steps.{IsBlank, IsRow, head_text}
+use Rattle.jobs.specs.Steps.{Begins, IsBlank, IsRow, head_text}
 use Rattle.jobs.specs.declared.job.Found.{Found}
 use Rattle.jobs.specs.declared.job.Head.{Head}
 use Rattle.jobs.specs.declared.place.BadText.{BadText}

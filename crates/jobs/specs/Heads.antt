@@ -7,8 +7,8 @@ use Rattle.std.specs.declared.alloc.Global.{Global}
 use Rattle.std.specs.declared.vec.Vec.{Vec}
 use Rattle.jobs.specs.Parsed.{Said, texts}
 use Rattle.jobs.specs.Places.{Counted}
-use Rattle.jobs.specs.Signs.{squeezed, words, WordOver}
-use Rattle.jobs.specs.Steps.{IsBlank, IsRow, head_text, step_text}
+use Rattle.jobs.specs.Signs.{words}
+use Rattle.jobs.specs.Steps.{Begins, IsBlank, IsRow, head_text, step_text}
 use Rattle.jobs.specs.declared.job.Found.{Found}
 use Rattle.jobs.specs.declared.job.Head.{Head}
 use Rattle.jobs.specs.declared.job.StepWord.{StepWord}
@@ -44,12 +44,6 @@ SpellsRoles ws v = (letters : List ℕ) × (ws ≡ letters ∷ []) × (v.items �
 abbrev pub Once : {T : Type 0} → (List (List ℕ) → T → Type 0) → List (List (List ℕ)) → Option T → Type 0
 Once says g None = g ≡ []
 Once says g (Some x) = (ws : List (List ℕ)) × (g ≡ ws ∷ []) × says ws x
-
--- A line begins with this word, and the word goes no further.
-pub record Begins (w line : List ℕ) : Type 0 where
-  pub behind : List ℕ
-  pub is : squeezed line ≡ w ++ squeezed behind
-  pub over : WordOver behind
 
 -- A line of the head, or one that says nothing.
 abbrev pub OfHead : List ℕ → Type 0

@@ -12,6 +12,8 @@ use Rattle.jobs.specs.declared.job.StepWord.TheVariants as word
 use Rattle.jobs.specs.declared.job.WordLine.{WordLine}
 use Rattle.jobs.specs.declared.place.HeadWord.{HeadWord}
 use Rattle.jobs.specs.declared.place.HeadWord.TheVariants as head
+use Rattle.jobs.specs.declared.place.Wrong.{Wrong}
+use Rattle.jobs.specs.declared.place.Wrong.TheVariants.{LateHead, UnknownWord}
 
 -- An empty line or a comment, whose first sign is #.
 abbrev pub IsBlank : List ℕ → Type 0
@@ -76,6 +78,16 @@ pub record StepSaid (line : List ℕ) (t : Step) : Type 0 where
 abbrev pub Says : List ℕ → Option Step → Type 0
 Says line None = IsBlank line
 Says line (Some t) = StepSaid line t
+
+-- A line begins with this word, and the word goes no further.
+pub record Begins (w line : List ℕ) : Type 0 where
+  pub behind : List ℕ
+  pub is : squeezed line ≡ w ++ squeezed behind
+  pub over : WordOver behind
+
+-- Why a line is refused as a step: no line begins as it does; or it is one of the head; or it is a step, and its operands are wrong.
+abbrev pub StepWrong : List ℕ → Wrong → Type 0
+StepWrong line w = (w ≡ UnknownWord) ⊎ ((h : HeadWord) × Begins (head_text h) line × (w ≡ LateHead)) ⊎ ((s : StepWord) × Begins (step_text s) line)
 
 -- A line begins with a word.
 pub record WordRead (line : List ℕ) (number : ℕ) (w : WordLine) : Type 0 where

@@ -7,7 +7,7 @@ ghost use Rattle.jobs.specs.declared.place.HeadWord.{HeadWord as HeadWordOf};
 ghost use Rattle.jobs.specs.declared.place.Wrong.TheVariants.{MissingLine, TwiceGiven, UnknownWord};
 ghost use Rattle.jobs.specs.Places.{OnLine, InText, left_of, rest_of, words_of};
 ghost use Rattle.jobs.specs.Signs.{squeezed, words, WordOver, Apart};
-ghost use Rattle.jobs.specs.Steps.{IsBlank, WordRead, Says, Operands, IsEntry, IsRow, word_text, word_of};
+ghost use Rattle.jobs.specs.Steps.{IsBlank, WordRead, Says, StepWrong, Operands, IsEntry, IsRow, word_text, word_of};
 
 use crate::cursor::{Cursor, Source};
 use crate::parse::whole;
@@ -117,7 +117,7 @@ fn word_line(line: &str, number: usize) -> Result<Option<WordLine<'_>>, BadText>
 // before the first step.
 #[tactic(auto, using(crate::proofs::Wording::step_said))]
 pub fn read_step(line: &str, number: usize) -> Result<Option<Step<'_>>, BadText>
-    ensures { MatchResult result (λ step. Says line.now step) (λ e. OnLine number 1 (length line.now) e.place) }
+    ensures { MatchResult result (λ step. Says line.now step) (λ e. OnLine number 1 (length line.now) e.place × StepWrong line.now e.wrong) }
 {
     let Some(found) = word_line(line, number)? else {
         return Ok(None);
