@@ -1,7 +1,7 @@
 -- What a line of a job says.
 use Rattle.std.specs.Prelude.{◌≡◌, ℕ, List, [], ◌∷◌, ◌++◌, ◌⊎◌, codes, slice_index, Option, Some, None}
 use Rattle.book.specs.declared.entry.Entry.{Entry}
-use Rattle.jobs.specs.Places.{left_of, rest_of, words_of, IsOn}
+use Rattle.jobs.specs.Places.{left_of, words_of, IsOn}
 use Rattle.jobs.specs.Signs.{squeezed, words, WordOver, Apart, Numeral}
 use Rattle.jobs.specs.declared.job.LineWord.{LineWord}
 use Rattle.jobs.specs.declared.job.LineWord.TheVariants.{Head as HeadLine, Step as StepLine}
@@ -82,7 +82,7 @@ Says line (Some t) = StepSaid line t
 -- A line begins with this word, and the word goes no further.
 pub record Begins (w line : List ℕ) : Type 0 where
   pub behind : List ℕ
-  pub is : squeezed line ≡ w ++ squeezed behind
+  pub is : words line ≡ words (w ++ behind)
   pub over : WordOver behind
 
 -- Why a line is refused as a step: no line begins as it does; or it is one of the head; or it is a step, and its operands are wrong.
@@ -92,6 +92,6 @@ StepWrong line w = (w ≡ UnknownWord) ⊎ ((h : HeadWord) × Begins (head_text 
 -- A line begins with a word.
 pub record WordRead (line : List ℕ) (number : ℕ) (w : WordLine) : Type 0 where
   pub place : IsOn line number w.here w.after
-  pub text : squeezed line ≡ word_text w.word ++ rest_of w.after
+  pub text : words line ≡ words (word_text w.word ++ left_of w.after)
   pub over : WordOver (left_of w.after)
   pub words : Apart (left_of w.after) → words line ≡ word_text w.word ∷ words_of w.after

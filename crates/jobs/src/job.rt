@@ -237,7 +237,7 @@ impl Found {
         after: Cursor<'_>,
     ) -> Result<(), BadText>
         requires same { after.source ≡ here.source }
-        requires text { squeezed here.source.bytes.now ≡ head_text word ++ rest_of after }
+        requires text { words here.source.bytes.now ≡ words (head_text word ++ left_of after) }
         requires over { WordOver (left_of after) }
         requires words { Apart (left_of after) → words here.source.bytes.now ≡ head_text word ∷ words_of after }
         ensures { MatchResult result (λ _. Taken here.entry.source.bytes.now self.old self.new false) (λ e. InText here.entry.source e × (has_line self.old word ≡ true → e.wrong ≡ TwiceGiven)) }

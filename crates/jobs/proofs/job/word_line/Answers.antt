@@ -32,7 +32,7 @@ returns-in-Some c =
         from = ap (λ (z : Source). z.start.column) source ∙ ap (λ (p : Place). p.column) c.new.ensures.start;
         same = word.after.same;
       };
-      text = sym (ap squeezed line) ∙ gap.after.text ∙ word.after.text ∙ ap (λ z. z ++ rest_of c.word.result.1) named;
+      text = sym (ap words line) ∙ sym gap.apart ∙ ap words word.is ∙ ap (λ z. words (z ++ left_of c.word.result.1)) named;
       over = word.over;
       words = λ apart. first_word c.args.line.now start c.past_spaces-here.result c.word.result.1 c.word.result.0.now (ap words line) gap.apart word.is word.whole some apart
           ∙ ap (λ z. z ∷ words_of c.word.result.1) named;
