@@ -135,6 +135,11 @@ fn steps(rt: HostRuntime) -> Result<(), Fail> {
     );
     assert!(rt; matches!(read_step("sheet out", 4), Ok(Some(Step::Sheet("out")))));
     assert_eq!(rt; read_step("show 1", 4).err(), bad(4, 7, Wrong::NoNumber));
+    assert_eq!(rt; read_step("show 1,2", 4).err(), bad(4, 7, Wrong::NoNumber));
+    assert_eq!(rt;
+        read_step("shown 1 2", 4).err(),
+        bad(4, 1, Wrong::UnknownWord)
+    );
     assert_eq!(rt; read_step("tally 1", 4).err(), bad(4, 7, Wrong::GoesOn));
     assert_eq!(rt; read_step("records 1", 4).err(), bad(4, 1, Wrong::LateHead));
     Ok(())
@@ -164,5 +169,18 @@ fn words(rt: HostRuntime) -> Result<(), Fail> {
         .ok_or("no fault")?;
     let printed = found.to_string(heap)?;
     assert_eq!(rt; printed.as_str(), "line 7 column 3: ',' belongs here");
+    let found = read_head(heap, "yarn clear(9)\nhands clear(9)\n")
+        .err()
+        .ok_or("no fault")?;
+    let printed = found.to_string(heap)?;
+    assert_eq!(rt;
+        printed.as_str(),
+        "line 3 column 1: the head needs a line roles with role letters"
+    );
+    let printed = Unbuilt::AboveTop.to_string(heap)?;
+    assert_eq!(rt;
+        printed.as_str(),
+        "13: the constant of a plus is above its top"
+    );
     Ok(())
 }
