@@ -2,6 +2,7 @@
 // be read or is refused on the way is told with its file and line, and the rest goes on.
 use crate::drafts::tell_whether_draft;
 use crate::folder::Folder;
+use crate::inputs::job_reads;
 use crate::refusals::tell_refused;
 use crate::sheet::write_sheet;
 use anyhow::{Context, anyhow};
@@ -58,10 +59,14 @@ pub fn do_job(rt: &HostRuntime, job: &str) -> anyhow::Result<()> {
     match shed.do_steps(job, &text, head.lines, &mut release, &mut memory) {
         Ok(sheet) => {
             let sealed = release.seal();
-            match sheet {
-                Some(name) => write_sheet(rt, folder, name, &sealed, &memory, head.roles.len()),
-                None => Ok(()),
+            let Some(name) = sheet else {
+                return Ok(());
+            };
+            if job_reads(rt, folder, job, &text, &head, name)? {
+                eprintln!(rt; "{name}: no sheet is written over a file that the job reads")?;
+                return Err(anyhow!("no sheet"));
             }
+            write_sheet(rt, folder, name, &sealed, &memory, head.roles.len())
         }
         Err(error) => {
             release.scrap(&mut memory);

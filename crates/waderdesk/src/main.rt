@@ -4,6 +4,7 @@
 mod ciphers;
 mod drafts;
 mod folder;
+mod inputs;
 mod job;
 mod refusals;
 mod sheet;
