@@ -1,4 +1,5 @@
-// client QUESTIONS ANSWERS: asks the library what crates/crosscheck is asked, turns each answer back, and tries damaged inputs.
+// client QUESTIONS ANSWERS: asks the library what crates/crosscheck is asked, turns each answer back, and tries what each refusal of
+// the header is for.
 use std::process::ExitCode;
 use std::{env, fs};
 
@@ -18,6 +19,7 @@ unsafe extern "C" {
     fn waderdesk_read_draft(draft: *const u8, draft_length: usize) -> Answer;
 }
 
+#[derive(Clone)]
 struct Cipher {
     draft: Vec<u8>,
     key: Vec<u8>,
@@ -38,46 +40,106 @@ fn bytes(hex: &str) -> Vec<u8> {
     (0..hex.len() / 2).map(|i| u8::from_str_radix(&hex[2 * i..2 * i + 2], 16).unwrap()).collect()
 }
 
+const DONE: Answer = Answer { status: 0, at: 0, place: 0 };
+
 fn refusal(status: u64, at: u64) -> Answer {
     Answer { status, at, place: 0 }
+}
+
+// Damage to the last draft of the questions, of width 24: another byte and length, and the status, offset and list place of the fault.
+// W stands at 0, P at 2, A at 3, the orders at 12, 77, 142 and 207, and Z at 272.
+const DAMAGES: [(usize, u8, usize, u64, u64, u64); 10] = [
+    (1, 24, 1, 1, 0, 0),
+    (1, 24, 100, 1, 77, 0),
+    (2, b'X', 273, 2, 2, 0),
+    (2, b'W', 273, 3, 2, 0),
+    (2, b'B', 273, 4, 2, 0),
+    (1, 23, 273, 5, 0, 0),
+    (7, 1, 273, 6, 3, 0),
+    (148, 24, 273, 7, 142, 5),
+    (207, b'Z', 208, 8, 207, 0),
+    (273, 0, 274, 9, 273, 0),
+];
+
+#[derive(Default)]
+struct Checks {
+    asked: usize,
+    failures: usize,
+}
+
+impl Checks {
+    fn check(&mut self, what: &str, good: bool) {
+        if !good {
+            self.failures += 1;
+            println!("client.rs: failed: {what}");
+        }
+    }
+
+    fn ask(&mut self, cipher: &Cipher, question: &str, number: u64, expected: u64) {
+        let (there, again): (Coder, Coder) =
+            if question == "code" { (waderdesk_code, waderdesk_back) } else { (waderdesk_back, waderdesk_code) };
+        let mut numbers = [number];
+        self.check("an answer", cipher.call(there, &mut numbers) == DONE && numbers == [expected]);
+        self.check("an answer turned back", cipher.call(again, &mut numbers) == DONE && numbers == [number]);
+        self.asked += 1;
+    }
+
+    // Both calls refuse, and write nothing.
+    fn refused(&mut self, what: &str, cipher: &Cipher, answer: Answer) {
+        let mut numbers = [1, u64::MAX];
+        for call in [waderdesk_code as Coder, waderdesk_back] {
+            self.check(what, cipher.call(call, &mut numbers) == answer && numbers == [1, u64::MAX]);
+        }
+    }
+
+    // The key of CPA at width 33 has 326 bits, so two bits of its last byte are spare.
+    fn key_refused(&mut self, cipher: &mut Cipher) {
+        cipher.key[40] |= 0x80;
+        self.refused("a spare bit of the key", cipher, refusal(12, 0));
+        cipher.key.truncate(40);
+        self.refused("a short key", cipher, refusal(11, 0));
+    }
+
+    fn damaged(&mut self, cipher: &mut Cipher) {
+        let whole = cipher.draft.clone();
+        for (offset, byte, length, status, at, place) in DAMAGES {
+            cipher.draft.push(0);
+            cipher.draft[offset] = byte;
+            cipher.draft.truncate(length);
+            let fault = Answer { status, at, place };
+            self.check("a spoilt draft read", read(&cipher.draft) == fault);
+            self.refused("a spoilt draft", cipher, fault);
+            cipher.draft.clone_from(&whole);
+        }
+    }
 }
 
 fn main() -> ExitCode {
     let files: Vec<String> = env::args().skip(1).map(|path| fs::read_to_string(path).unwrap()).collect();
     let mut answers = files[1].lines();
     let mut cipher = Cipher { draft: vec![], key: vec![] };
-    let (mut asked, mut failures) = (0, 0);
-    let mut check = |what: &str, good: bool| {
-        if !good {
-            failures += 1;
-            println!("client.rs: failed: {what}");
-        }
-    };
+    let mut spare = None;
+    let mut checks = Checks::default();
     for line in files[0].lines() {
         let words: Vec<&str> = line.split(' ').collect();
         if words[0] == "cipher" {
             cipher = Cipher { draft: bytes(words[1]), key: bytes(words[2]) };
-            check("a draft", read(&cipher.draft) == refusal(0, 0));
-            continue;
+            checks.check("a draft", read(&cipher.draft) == DONE);
+            if cipher.draft[1] == 33 && cipher.key.len() == 41 {
+                spare = Some(cipher.clone());
+            }
+        } else {
+            let expected = answers.next().unwrap().parse().unwrap();
+            checks.ask(&cipher, words[0], words[1].parse().unwrap(), expected);
         }
-        let (there, again): (Coder, Coder) =
-            if words[0] == "code" { (waderdesk_code, waderdesk_back) } else { (waderdesk_back, waderdesk_code) };
-        let number: u64 = words[1].parse().unwrap();
-        let expected: u64 = answers.next().unwrap().parse().unwrap();
-        let mut numbers = [number];
-        check("an answer", cipher.call(there, &mut numbers) == refusal(0, 0) && numbers == [expected]);
-        check("an answer turned back", cipher.call(again, &mut numbers) == refusal(0, 0) && numbers == [number]);
-        asked += 1;
     }
-    let mut numbers = [0, u64::MAX];
-    check("a number above the top", cipher.call(waderdesk_code, &mut numbers) == refusal(13, 1));
-    let last = cipher.key.pop();
-    check("a short key", cipher.call(waderdesk_back, &mut numbers) == refusal(11, 0));
-    cipher.key.extend(last);
-    cipher.draft[1] = 23;
-    check("a spoilt draft", cipher.call(waderdesk_code, &mut numbers) == refusal(5, 0));
-    check("a spoilt draft read", read(&cipher.draft) == refusal(5, 0));
-    check("nothing is written", numbers == [0, u64::MAX]);
+    let mut numbers = [0, 1, 2];
+    checks.check("three numbers", cipher.call(waderdesk_code, &mut numbers) == DONE && numbers != [0, 1, 2]);
+    checks.check("three codes", cipher.call(waderdesk_back, &mut numbers) == DONE && numbers == [0, 1, 2]);
+    checks.refused("a number above the top", &cipher, refusal(13, 1));
+    checks.key_refused(&mut spare.unwrap());
+    checks.damaged(&mut cipher);
+    let Checks { asked, failures } = checks;
     let good = failures == 0 && asked > 0;
     println!("client.rs: {}, {asked} answers", if good { "ok" } else { "failed" });
     ExitCode::from(u8::from(!good))
