@@ -1,9 +1,12 @@
 -- What the calls on many numbers answer, and what they leave.
-use Rattle.std.specs.Prelude.{◌≡◌, ℕ, List}
+use Rattle.std.specs.Prelude.{◌≡◌, ℕ, List, Result}
 use Rattle.meanings.specs.Layers.{turned}
 use Rattle.meanings.specs.Meaning.{Meaning}
 use Rattle.kcipher.specs.Bytes.{CipherOf, NoneBy}
-use Rattle.clib.specs.Answers.{Tells}
+use Rattle.spelling.specs.Told.{Told}
+use Rattle.spelling.specs.declared.fault.Fault.{Fault}
+use Rattle.spelling.specs.declared.parts.Parts.{Parts}
+use Rattle.clib.specs.Answers.{Tells, draft_answer}
 use Rattle.clib.specs.Many.{AllThrough, FirstAboveOf}
 use Rattle.clib.specs.declared.answer.Answer.{Answer}
 use Rattle.clib.specs.declared.refused.Refused.{Refused}
@@ -27,3 +30,9 @@ Coded draft key old new = Tells (AllCoded draft key old new) (Unwritten draft ke
 
 abbrev pub TurnedBack : (draft key old new : List ℕ) → Answer → Type 0
 TurnedBack draft key old new = Tells (AllBack draft key old new) (Unwritten draft key old new)
+
+-- Done where the bytes spell a draft, and else their first fault.
+pub record DraftRead (draft : List ℕ) (a : Answer) : Type 0 where
+  pub read : Result Parts Fault
+  pub told : Told draft read
+  pub answer : a ≡ draft_answer read
