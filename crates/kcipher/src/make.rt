@@ -1,6 +1,5 @@
 // Making a K-Cipher of a draft and a key.
-ghost use Rattle.std.specs.Prelude.{◌≡◌, ◌^◌, ◌<◌, ◌≤◌, length};
-ghost use Rattle.bits.specs.Listed.{order};
+ghost use Rattle.std.specs.Prelude.{◌≡◌, length};
 ghost use Rattle.flows.specs.Published.{setting, published};
 ghost use Rattle.flows.specs.Steps.{Equal};
 ghost use Rattle.keys.specs.Asking.{work_after};

@@ -1,5 +1,5 @@
 // The random parts of CPA.
-ghost use Rattle.std.specs.Prelude.{◌≡◌, ℕ, ◌<◌, ◌≤◌};
+ghost use Rattle.std.specs.Prelude.{◌≡◌, ℕ, ◌<◌};
 ghost use Rattle.keys.specs.Expanding.{random_row, random_rows, Placed};
 
 use crate::lengths::schedule_bits;

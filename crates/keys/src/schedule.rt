@@ -1,5 +1,5 @@
 // The bits that the round keys are cut from, as they lie in the 24 bytes of a work space.
-ghost use Rattle.std.specs.Prelude.{◌≡◌, ◌<◌, ◌≤◌, ◌++◌, length, take, drop, None as Nothing};
+ghost use Rattle.std.specs.Prelude.{◌≡◌, ◌≤◌, ◌++◌, length, take, drop, None as Nothing};
 ghost use Rattle.std.specs.Int.{to_le_bytes, w64};
 ghost use Rattle.keys.specs.Asking.{asked_key};
 ghost use Rattle.keys.specs.Expanding.{Scheduled};

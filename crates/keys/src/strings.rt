@@ -1,5 +1,5 @@
 // Numbers in strings of bits: bit i of a string of bytes is bit i mod 8 of byte i div 8, and behind the last byte all bits are 0.
-ghost use Rattle.std.specs.Prelude.{◌≡◌, ◌+◌, ◌^◌, ◌<◌, ◌≤◌};
+ghost use Rattle.std.specs.Prelude.{◌≡◌, ◌^◌, ◌<◌, ◌≤◌};
 ghost use Rattle.flows.specs.Strings.{byte_bit, number_at};
 
 pub(crate) fn bit_at(bytes: &[u8], i: usize) -> u64
