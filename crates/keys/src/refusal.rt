@@ -1,5 +1,6 @@
 // Why a key is not expanded.
 ghost use Rattle.std.specs.Prelude.{◌≡◌, Some as Shown};
+ghost use Rattle.std.specs.Fmt.{styled_text};
 ghost use Rattle.keys.specs.Refusal.{number_of, words_of};
 
 use std::error::Error;
@@ -30,6 +31,8 @@ impl KeyRefusal {
 
 impl fmt::Display for KeyRefusal {
     ghost output = { λ s. Shown (words_of s) };
+
+    ghost styled_output = { λ s style. Shown (styled_text style (words_of s)) };
 
     fn fmt<W: fmt::Write>(&self, f: &mut fmt::Formatter<W>) -> fmt::Result {
         f.pad(match self {
