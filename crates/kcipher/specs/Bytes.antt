@@ -1,12 +1,15 @@
 -- What the bytes of a draft and a key come to.
-use Rattle.std.specs.Prelude.{◌≡◌, ℕ, List, Some}
+use Rattle.std.specs.Prelude.{◌≡◌, ℕ, List, ◌++◌, Option, Some, codes}
+use Rattle.std.specs.Fmt.{decimal, ◌++?◌}
 use Rattle.keys.specs.Asking.{asked}
+use Rattle.keys.specs.Refusal.{number_of, words_of}
 use Rattle.kcipher.specs.Making.{IsCipher}
 use Rattle.kcipher.specs.declared.bytes.NoCipher.{NoCipher}
 use Rattle.kcipher.specs.declared.bytes.NoCipher.TheVariants.{Draft, Key}
 use Rattle.meanings.specs.Meaning.{Meaning}
 use Rattle.spelling.specs.Spelling.{Spells, FirstNo}
 use Rattle.spelling.specs.Told.{Unspelt}
+use Rattle.spelling.specs.declared.fault.Fault.{Fault}
 use Rattle.spelling.specs.declared.parts.Parts.{Parts}
 
 -- A coding that is the published cipher of the draft that the bytes spell and of the key.
@@ -19,3 +22,8 @@ pub record CipherOf (draft key : List ℕ) (m : Meaning) : Type 0 where
 abbrev pub NoneBy : List ℕ → List ℕ → NoCipher → Type 0
 NoneBy draft key (Draft fault) = FirstNo draft fault × Unspelt draft
 NoneBy draft key (Key refusal) = (parts : Parts) × Spells draft parts × (asked parts key 24 ≡ Some refusal)
+
+-- What it reads as: `refused`, and what the fault reads as, or the refusal's number and words.
+abbrev pub no_cipher_text : (Fault → Option (List ℕ)) → NoCipher → Option (List ℕ)
+no_cipher_text fault_text (Draft fault) = Some (codes "refused ") ++? fault_text fault
+no_cipher_text fault_text (Key refusal) = Some (codes "refused " ++ decimal (number_of refusal) ++ codes ": " ++ words_of refusal)

@@ -1,7 +1,7 @@
 // A cipher from the bytes of its draft and those of its key, as a mill sends them.
-ghost use Rattle.std.specs.Prelude.{◌≡◌, MatchResult, None as Unshown};
+ghost use Rattle.std.specs.Prelude.{◌≡◌, MatchResult};
 ghost use Rattle.kcipher.specs.Ciphers.{cipher_means};
-ghost use Rattle.kcipher.specs.Bytes.{CipherOf, NoneBy};
+ghost use Rattle.kcipher.specs.Bytes.{CipherOf, NoneBy, no_cipher_text};
 ghost use Rattle.kcipher.specs.declared.bytes.NoCipher.TheVariants.{Draft as DraftFault, Key as KeyRefused};
 
 use crate::cipher::KCipher;
@@ -44,7 +44,7 @@ impl From<KeyRefusal> for NoCipher {
 
 // One line: `refused N: words`, and for a draft `refused N offset O layer L: words`.
 impl fmt::Display for NoCipher {
-    ghost output = { λ _. Unshown };
+    ghost output = { no_cipher_text ⟦<Fault as fmt::Display>⟧.output };
 
     fn fmt<W: fmt::Write>(&self, f: &mut fmt::Formatter<W>) -> fmt::Result {
         match self {
