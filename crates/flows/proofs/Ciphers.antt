@@ -6,7 +6,7 @@ use Rattle.bits.specs.Orders.{moved, gathered}
 use Rattle.bits.specs.Words.{sum, less}
 use Rattle.bits.proofs.Bits.{bit_below}
 use Rattle.boxes.specs.Boxes.{cpa_box, cpa_box_back}
-use Rattle.meanings.specs.Meaning.{Lawful}
+use Rattle.meanings.specs.Meaning.{Lawful, Equal}
 use Rattle.spelling.specs.declared.parts.Flow.{Flow}
 use Rattle.spelling.specs.declared.parts.Flow.TheVariants.{Flex, Cpa}
 use Rattle.spelling.specs.declared.parts.Parts.{Parts}
@@ -14,7 +14,7 @@ use Rattle.spelling.specs.Sound.{SoundParts}
 use Rattle.flows.specs.Flows.{Setting, Kind, through_boxes, flex_encrypt, flex_decrypt, cpa_encrypt, cpa_decrypt}
 use Rattle.flows.specs.Keys.{first_row, second_row, round_key, round_box, round_box_back, randomizer, schedule, with_more, expanded}
 use Rattle.flows.specs.Published.{setting, published}
-use Rattle.flows.specs.Steps.{block, Equal}
+use Rattle.flows.specs.Steps.{block}
 use Rattle.flows.specs.Strings.{byte_bit}
 use Rattle.flows.proofs.Cutting.{OfBits, number_below, round_same, round_back_same, round_boxed}
 use Rattle.flows.proofs.Flows.{Fits, block_lawful, flex_comes, cpa_comes}

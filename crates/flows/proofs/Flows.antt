@@ -12,10 +12,10 @@ use Rattle.boxes.specs.Layouts.{layout}
 use Rattle.boxes.proofs.Layouts.{layout_cut}
 use Rattle.boxes.proofs.Rows.{rows_undone}
 use Rattle.meanings.specs.Layers.{chained, turned, stretched}
-use Rattle.meanings.specs.Meaning.{Meaning, Lawful}
+use Rattle.meanings.specs.Meaning.{Meaning, Lawful, Equal}
 use Rattle.meanings.proofs.Lawful.{stretched_in}
 use Rattle.flows.specs.Flows.{Setting, Kind, through_boxes, flex_encrypt, flex_decrypt, cpa_encrypt, cpa_decrypt}
-use Rattle.flows.specs.Steps.{block, flex_steps, cpa_steps, Equal}
+use Rattle.flows.specs.Steps.{block, flex_steps, cpa_steps}
 
 -- A width with boxes, orders of it, and a last round key that fits.
 pub record Fits (s : Setting) : Type 0 where

@@ -4,7 +4,7 @@ use Rattle.bits.specs.Orders.{moved, gathered}
 use Rattle.bits.specs.Words.{sum, less}
 use Rattle.boxes.specs.Boxes.{flex_box}
 use Rattle.meanings.specs.Layers.{chained}
-use Rattle.meanings.specs.Meaning.{Meaning, Same, SameBack}
+use Rattle.meanings.specs.Meaning.{Meaning}
 use Rattle.flows.specs.Flows.{Setting, Kind, through_boxes}
 
 -- A coding of all numbers of n bits.
@@ -51,8 +51,3 @@ cpa_steps s f0 f1 f2 g0 g1 g2 =
     chained (added n s.k2) (
     chained (reordered n s.order2) (
     chained (substituted n f2 g2) (masked n (moved s.order3 s.k2)))))))))))
-
--- Equal codings, which have equal ways back too.
-pub record Equal (a b : Meaning) : Type 0 where
-  pub same : Same a b
-  pub backs : SameBack a b

@@ -1,7 +1,7 @@
 -- A cipher made of a draft's orders, its round keys and its random parts is the published one.
 use Rattle.std.proofs.Common.{◌≡◌, ℕ, ◌^◌, ◌<◌, List, [], ◌∷◌, ap}
 use Rattle.flows.specs.Published.{setting, published}
-use Rattle.flows.specs.Steps.{Equal}
+use Rattle.meanings.specs.Meaning.{Equal}
 use Rattle.flows.proofs.Ciphers.{cpa_is, round_key_below}
 use Rattle.keys.specs.Expanding.{Keyed, random_row, random_rows}
 use Rattle.keys.specs.declared.expand.RoundKeys.{RoundKeys}

@@ -1,7 +1,6 @@
 -- What making a K-Cipher answers.
 use Rattle.std.specs.Prelude.{◌≡◌, ℕ, List, [], ◌∷◌, Some, None, Result, MatchResult}
 use Rattle.flows.specs.Published.{setting, published}
-use Rattle.flows.specs.Steps.{Equal}
 use Rattle.keys.specs.Asking.{asked}
 use Rattle.keys.specs.Expanding.{random_rows}
 use Rattle.keys.specs.declared.refusal.KeyRefusal.{KeyRefusal}
@@ -9,7 +8,7 @@ use Rattle.kcipher.specs.Ciphers.{cipher_means}
 use Rattle.kcipher.specs.Settings.{numbers}
 use Rattle.kcipher.specs.declared.cipher.KCipher.{KCipher}
 use Rattle.kcipher.specs.declared.cipher.KCipher.TheVariants.{Flex, Cpa}
-use Rattle.meanings.specs.Meaning.{Meaning, Lawful}
+use Rattle.meanings.specs.Meaning.{Meaning, Lawful, Equal}
 use Rattle.spelling.specs.declared.parts.Flow.TheVariants.{Flex as FlexFlow, Cpa as CpaFlow}
 use Rattle.spelling.specs.declared.parts.Parts.{Parts}
 

@@ -2,7 +2,8 @@
 ghost use Rattle.std.specs.Prelude.{◌≡◌, ◌^◌, ◌<◌, [], ◌∷◌};
 ghost use Rattle.bits.specs.Listed.{order};
 ghost use Rattle.bits.specs.Orders.{moved};
-ghost use Rattle.flows.specs.Steps.{added, reordered, substituted, masked, Equal};
+ghost use Rattle.flows.specs.Steps.{added, reordered, substituted, masked};
+ghost use Rattle.meanings.specs.Meaning.{Equal};
 
 use crate::block::{Block, Map};
 use crate::setting::{Setting, in_turn};

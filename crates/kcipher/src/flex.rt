@@ -3,7 +3,8 @@ ghost use Rattle.std.specs.Prelude.{◌≡◌};
 ghost use Rattle.flows.specs.Flows.{flex_encrypt, flex_decrypt};
 ghost use Rattle.bits.specs.Listed.{order};
 ghost use Rattle.boxes.specs.Boxes.{flex_box};
-ghost use Rattle.flows.specs.Steps.{added, reordered, substituted, masked, flex_steps, Equal};
+ghost use Rattle.flows.specs.Steps.{added, reordered, substituted, masked, flex_steps};
+ghost use Rattle.meanings.specs.Meaning.{Equal};
 ghost use Rattle.flows.proofs.Flows.{flex_comes};
 ghost use Rattle.kcipher.specs.Settings.{numbers, fits};
 

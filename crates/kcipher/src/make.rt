@@ -1,7 +1,7 @@
 // Making a K-Cipher of a draft and a key.
 ghost use Rattle.std.specs.Prelude.{◌≡◌, length};
 ghost use Rattle.flows.specs.Published.{setting, published};
-ghost use Rattle.flows.specs.Steps.{Equal};
+ghost use Rattle.meanings.specs.Meaning.{Equal};
 ghost use Rattle.keys.specs.Asking.{work_after};
 ghost use Rattle.keys.specs.Expanding.{Keyed};
 ghost use Rattle.kcipher.specs.Ciphers.{cipher_means};

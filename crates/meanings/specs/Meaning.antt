@@ -26,6 +26,11 @@ pub record Same (a b : Meaning) : Type 0 where
 pub record SameBack (a b : Meaning) : Type 0 where
   pub backs : (y : ℕ) → y ≤ a.top → a.back y ≡ b.back y
 
+-- Equal codings, with their ways back.
+pub record Equal (a b : Meaning) : Type 0 where
+  pub same : Same a b
+  pub backs : SameBack a b
+
 -- Each number up to the top is used exactly once as a code: it is the code of some number up to the top
 -- (`used`), and of no two (`once`); and no code lies above the top (`within`).
 pub record EachOnce (m : Meaning) : Type 0 where

@@ -1,5 +1,6 @@
 use Rattle.std.proofs.Common.{sym, subst, ◌∙◌}
-use Rattle.flows.specs.Steps.{block, Equal}
+use Rattle.flows.specs.Steps.{block}
+use Rattle.meanings.specs.Meaning.{Equal}
 use Rattle.flows.proofs.Flows.{equal}
 use Rattle.kcipher.specs.Rounds.{cpa_does, cpa_undoes, cpa_flow_comes}
 use Rattle.kcipher.proofs.Chains.{joined}

@@ -1,6 +1,7 @@
 use Rattle.std.proofs.Common.{sym, subst, ◌∙◌}
 use Rattle.flows.specs.Flows.{flex_encrypt, flex_decrypt}
-use Rattle.flows.specs.Steps.{block, Equal}
+use Rattle.flows.specs.Steps.{block}
+use Rattle.meanings.specs.Meaning.{Equal}
 use Rattle.flows.proofs.Flows.{flex_comes, equal}
 use Rattle.kcipher.specs.Settings.{numbers, fits}
 use Rattle.kcipher.proofs.Chains.{joined}
