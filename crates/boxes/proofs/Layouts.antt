@@ -4,7 +4,7 @@ use Rattle.std.proofs.lemmas.Bool.{and_parts, or_cases, eqb-true, ltb-true, leb-
 use Rattle.field.specs.Widths.{low_part}
 use Rattle.boxes.specs.declared.shape.Shape.{Shape}
 use Rattle.boxes.specs.Layouts.{permitted, candidate, better, choose, best, searched, layout, Cut}
-use Rattle.boxes.specs.Table.{table}
+use Rattle.boxes.proofs.Table.{table}
 
 abbrev same : Shape → Shape → Bool
 same a b = eqb a.wide b.wide && (eqb a.last b.last && eqb a.count b.count)

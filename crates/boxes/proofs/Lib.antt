@@ -1,3 +1,4 @@
+pub mod Table
 pub mod Layouts
 pub mod Layers
 pub mod Sent

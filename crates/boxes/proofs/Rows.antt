@@ -4,7 +4,7 @@ use Rattle.std.proofs.lemmas.Simd.{get_or-replicate, length-replicate}
 use Rattle.boxes.specs.declared.row.Boxes.{Boxes}
 use Rattle.boxes.specs.declared.shape.Shape.{Shape}
 use Rattle.boxes.specs.Layouts.{layout, widths, Cut}
-use Rattle.boxes.specs.Table.{table}
+use Rattle.boxes.proofs.Table.{table}
 use Rattle.boxes.proofs.Layouts.{layout_cut, shape_right}
 use Rattle.std.proofs.lemmas.Nat.{pow-add, mul-add-lt, shl_whole}
 use Rattle.std.proofs.lemmas.List.{drop_more, drop_all}

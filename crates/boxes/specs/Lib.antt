@@ -1,4 +1,3 @@
 pub mod Layouts
-pub mod Table
 pub mod Boxes
 pub mod Kinds

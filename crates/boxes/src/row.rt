@@ -1,4 +1,4 @@
-// The boxes of a width.
+// A row of boxes, the lowest first, and what it does to a number.
 ghost use Rattle.std.specs.Prelude.{◌≡◌, ◌^◌, ◌<◌, ◌≤◌, ◌⊎◌, MatchOption, slice_index};
 ghost use Rattle.boxes.specs.Boxes.{layer, Rows, Undone};
 ghost use Rattle.boxes.specs.Layouts.{layout, widths};
