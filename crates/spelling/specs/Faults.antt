@@ -1,5 +1,7 @@
--- The faults of a draft: their numbers, layers and words.
-use Rattle.std.specs.Prelude.{ℕ, List, Some, None, codes, Option}
+-- The faults of a draft: their numbers, layers and words, and the line that shows one.
+use Rattle.std.specs.Prelude.{ℕ, List, [], ◌++◌, Some, None, codes, Option}
+use Rattle.std.specs.Fmt.{decimal}
+use Rattle.spelling.specs.declared.fault.Fault.{Fault}
 use Rattle.spelling.specs.declared.fault.Layer.{Layer}
 use Rattle.spelling.specs.declared.fault.Layer.TheVariants.{Bytes, Commands, Orders}
 use Rattle.spelling.specs.declared.fault.Reason.{Reason}
@@ -55,3 +57,13 @@ words_of TooLarge = codes "C0 does not fit into the width"
 words_of (NoOrder p) = codes "the list is no order"
 words_of Missing = codes "something needed has not been given"
 words_of GoesOn = codes "the draft goes on after Z"
+
+abbrev pub place_text : Option ℕ → List ℕ
+place_text None = []
+place_text (Some p) = codes " place " ++ decimal p
+
+-- One line: number, offset, layer, the list place where there is one, and the words.
+abbrev pub line_of : Fault → List ℕ
+line_of f =
+    decimal (number_of f.reason) ++ (codes " offset " ++ (decimal f.offset ++ (codes " layer " ++ (name_of (layer_of f.reason) ++ (
+    place_text (place_in f.reason) ++ (codes ": " ++ words_of f.reason))))))

@@ -1,6 +1,6 @@
 // Why bytes are no draft.
-ghost use Rattle.std.specs.Prelude.{◌≡◌, Some as Shown, None as Unshown};
-ghost use Rattle.spelling.specs.Faults.{number_of, layer_of, place_in, words_of, name_of};
+ghost use Rattle.std.specs.Prelude.{◌≡◌, Some as Shown};
+ghost use Rattle.spelling.specs.Faults.{number_of, layer_of, place_in, words_of, name_of, line_of};
 
 use std::fmt;
 
@@ -117,7 +117,7 @@ impl fmt::Display for Layer {
 
 // One line: its number, offset and layer, the place where there is one, and the words.
 impl fmt::Display for Fault {
-    ghost output = { λ _. Unshown };
+    ghost output = { λ fault. Shown (line_of fault) };
 
     fn fmt<W: fmt::Write>(&self, f: &mut fmt::Formatter<W>) -> fmt::Result {
         let number = self.reason.number();
