@@ -1,8 +1,8 @@
 // Whole drafts, in any order of their commands, and everything short of one.
 use crate::sample::{Sample, faulty, spelt};
 use draft::read::read;
-use spelling::fault::Reason;
-use spelling::parts::Flow;
+use spelling::fault::{Layer, Reason};
+use spelling::parts::{Flow, Parts};
 use std::alloc::{AllocError, Global};
 use std::process::Abort;
 use std::test::Fail;
@@ -147,5 +147,45 @@ fn shown_line_by_line(rt: HostRuntime) -> Result<(), Fail> {
             .starts_with("width 33, flow Flex\nC0 0\nC1 0\norder 0: 0 1 2")
     );
     assert!(rt; shown.as_str().ends_with(" 60 61 62 63"));
+    Ok(())
+}
+
+// Each part on its own line: constants that differ, and in each list its own number alone. At 32 bits nothing that is for wider
+// ones is shown, and at 33 the orders 4 and 5 are of 64 bits.
+#[test]
+fn each_part_on_its_line(rt: HostRuntime) -> Result<(), Fail> {
+    let mut orders = [[0; 64]; 6];
+    for (list, k) in orders.iter_mut().zip(0u8..6) {
+        *list = [k; 64];
+    }
+    for (width, head, last) in [
+        (32, "width 32, flow CPA\nC0 12", 4),
+        (33, "width 33, flow CPA\nC0 12\nC1 345", 6),
+    ] {
+        let mut expected = String::from_str(rt.alloc(), head)?;
+        for k in 0..last {
+            expected.push_str(format!(in rt.alloc(); "\norder {k}:")?.as_str())?;
+            for _ in 0..if k < 4 { width } else { 64 } {
+                expected.push_str(format!(in rt.alloc(); " {k}")?.as_str())?;
+            }
+        }
+        let parts = Parts {
+            width,
+            flow: Flow::Cpa,
+            c0: 12,
+            c1: 345,
+            orders,
+        };
+        let shown = format!(in rt.alloc(); "{parts}")?;
+        assert_eq!(rt; shown.as_str(), expected.as_str());
+    }
+    Ok(())
+}
+
+// The name of a flow or a layer keeps to a column where it is given one.
+#[test]
+fn names_in_a_column(rt: HostRuntime) -> Result<(), Fail> {
+    let shown = format!(in rt.alloc(); "{:>5}|{:<7}|", Flow::Cpa, Layer::Bytes)?;
+    assert_eq!(rt; shown.as_str(), "  CPA|bytes  |");
     Ok(())
 }
