@@ -1,7 +1,7 @@
 // Orders of the bits of a number.
-ghost use Rattle.std.specs.Prelude.{◌≡◌, ◌*◌, ◌%◌, ◌^◌, ◌<◌, length, take, MatchOption, MatchResult, slice_index};
+ghost use Rattle.std.specs.Prelude.{◌≡◌, ◌*◌, ◌%◌, ◌^◌, ◌<◌, length, take, MatchOption, MatchResult};
 ghost use Rattle.bits.specs.Bits.{bit};
-ghost use Rattle.bits.specs.Orders.{IsOrder, Applied, Undone, FirstFault, Sound, among, fault_at};
+ghost use Rattle.bits.specs.Orders.{IsOrder, Applied, Undone, FirstFault, Sound, fault_at};
 
 use crate::width::Width;
 
