@@ -1,5 +1,6 @@
 // The refusal of a coding.
 ghost use Rattle.std.specs.Prelude.{◌≡◌, ◌≤◌, OnOk, Some as Shown};
+ghost use Rattle.std.specs.Fmt.{padded};
 ghost use Rattle.codings.specs.Asking.{coded};
 ghost use Rattle.codings.specs.Refusal.{number_of, words_of};
 ghost use Rattle.meanings.specs.Supplied.{clear};
@@ -22,6 +23,8 @@ impl AboveTop {
 
 impl fmt::Display for AboveTop {
     ghost output = { λ s. Shown (words_of s) };
+
+    ghost styled_output = { λ s spec. Shown (padded spec (words_of s)) };
 
     fn fmt<W: fmt::Write>(&self, f: &mut fmt::Formatter<W>) -> fmt::Result {
         f.pad("the number is above the coding's top")
