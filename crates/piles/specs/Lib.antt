@@ -1,2 +1,3 @@
 pub mod Trees
 pub mod Stacking
+pub mod Errors

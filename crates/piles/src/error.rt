@@ -1,5 +1,7 @@
 // Why a layer cannot be laid on a pile.
-ghost use Rattle.std.specs.Prelude.{◌≡◌};
+ghost use Rattle.std.specs.Prelude.{◌≡◌, Some as Shown};
+ghost use Rattle.std.specs.Fmt.{padded};
+ghost use Rattle.piles.specs.Errors.{words_of};
 ghost use Rattle.piles.specs.declared.error.PileError.TheVariants.{NoMemory};
 
 use std::alloc::AllocFailed;
@@ -16,11 +18,15 @@ pub enum PileError {
 }
 
 impl fmt::Display for PileError {
+    ghost output = { λ s. Shown (words_of s) };
+
+    ghost styled_output = { λ s spec. Shown (padded spec (words_of s)) };
+
     fn fmt<W: fmt::Write>(&self, f: &mut fmt::Formatter<W>) -> fmt::Result {
-        match self {
-            PileError::NoMemory => f.pad("there is no memory for another layer"),
-            PileError::TooHigh => f.pad("a pile has at most 1000 layers above one another"),
-        }
+        f.pad(match self {
+            PileError::NoMemory => "there is no memory for another layer",
+            PileError::TooHigh => "a pile has at most 1000 layers above one another",
+        })
     }
 }
 
