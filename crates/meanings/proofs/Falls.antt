@@ -1,8 +1,9 @@
 -- Falls: the walk down from a number to the first one at most t, step by step.
 use Rattle.std.proofs.Common.{◌≡◌, ℕ, zero, suc, ◌+◌, ◌<◌, ◌≤◌, ◌⊎◌, sym, refl, ◌∙◌, subst, inl, inr, zero-add, arith}
 use Rattle.std.proofs.lemmas.Bool.{cases_lt, le-leb, lt-leb}
+use Rattle.std.specs.Fn.{iterate}
 use Rattle.meanings.specs.Meaning.{Meaning, Lawful}
-use Rattle.meanings.specs.Layers.{after, walk, FirstWithin}
+use Rattle.meanings.specs.Layers.{walk, FirstWithin}
 
 -- w comes to y, at most t, after k applications of f, each made on a number above t
 abbrev pub Falls : ℕ → ℕ → (ℕ → ℕ) → ℕ → ℕ → Type 0
@@ -16,7 +17,7 @@ pub record Fall (most t : ℕ) (f : ℕ → ℕ) (w : ℕ) : Type 0 where
   pub falls : Falls count t f w to
 
 -- where some number of the walk is at most t, there is a first one
-pub fall : (k t : ℕ) (f : ℕ → ℕ) (w : ℕ) → after k f w ≤ t → Fall k t f w
+pub fall : (k t : ℕ) (f : ℕ → ℕ) (w : ℕ) → iterate f k w ≤ t → Fall k t f w
 fall zero t f w h = record { count = zero; to = w; few = omega arith; falls = (h, refl) }
 fall (suc k) t f w h = go (cases_lt t w) (fall k t f (f w) h)
   where
@@ -52,11 +53,11 @@ walk_falls (suc k) (suc fuel) t f w y h le = rw (walk, lt-leb w t h.0) (walk_fal
 pub falls_first : (k t : ℕ) (f : ℕ → ℕ) (x y : ℕ) → Falls k t f (f x) y → FirstWithin f t x y
 falls_first k t f x y h = record { more = k; reached = end k (f x) h; small = falls_small k t f (f x) y h; earlier = before k (f x) h }
   where
-    end : (k w : ℕ) → Falls k t f w y → after k f w ≡ y
+    end : (k w : ℕ) → Falls k t f w y → iterate f k w ≡ y
     end zero w h = h.1
     end (suc k) w h = end k (f w) h.1
 
-    before : (k w : ℕ) → Falls k t f w y → (j : ℕ) → j < k → t < after j f w
+    before : (k w : ℕ) → Falls k t f w y → (j : ℕ) → j < k → t < iterate f j w
     before zero w h j lt = absurd (omega arith)
     before (suc k) w h zero lt = h.0
     before (suc k) w h (suc j) lt = before k (f w) h.1 j (omega arith)

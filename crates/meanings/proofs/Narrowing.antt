@@ -2,7 +2,8 @@
 -- at most the new top.
 use Rattle.std.proofs.Common.{◌≡◌, ℕ, zero, ◌≤◌, min, refl, arith}
 use Rattle.meanings.specs.Meaning.{Meaning, Lawful}
-use Rattle.meanings.specs.Layers.{after, narrowed, turned, IsNarrowed}
+use Rattle.std.specs.Fn.{iterate}
+use Rattle.meanings.specs.Layers.{narrowed, turned, IsNarrowed}
 use Rattle.meanings.proofs.Orbits.{comes_home}
 use Rattle.meanings.proofs.Falls.{Falls, Fall, fall, falls_small, walk_falls, falls_first, falls_back}
 
@@ -19,7 +20,7 @@ module _ (t : ℕ) (m : Meaning) (l : Lawful m) where
   pub way : (x : ℕ) → x ≤ min t m.top → Way t m x
   way x h = go (comes_home m l x (omega arith))
     where
-      go : (k : ℕ) × (k ≤ m.top) × (after k m.rule (m.rule x) ≡ x) → Way t m x
+      go : (k : ℕ) × (k ≤ m.top) × (iterate m.rule k (m.rule x) ≡ x) → Way t m x
       go c =
           let f : Fall c.0 (min t m.top) m.rule (m.rule x) = fall c.0 (min t m.top) m.rule (m.rule x) (rw c.2 h) in
           let few : f.count ≤ m.top = omega (arith, f.few, c.1) in

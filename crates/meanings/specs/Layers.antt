@@ -1,6 +1,7 @@
 -- The three layers over any codings, chained, turned and narrowed: first what each is, in the words of
 -- the subject, and then the meanings that the code works out.
 use Rattle.std.specs.Prelude.{◌≡◌, ℕ, zero, suc, ◌<◌, ◌≤◌, min, max, true, false, nat_le}
+use Rattle.std.specs.Fn.{iterate}
 use Rattle.meanings.specs.Meaning.{Meaning}
 
 -- Where x comes to when it meets the coding m: up to the top to its code, above it it passes unchanged.
@@ -19,18 +20,13 @@ pub record IsTurned (a b : Meaning) : Type 0 where
   pub lands : (y : ℕ) → y ≤ b.top → b.rule y ≤ a.top
   pub rule : (y : ℕ) → y ≤ b.top → a.rule (b.rule y) ≡ y
 
--- The number that k applications of f reach from x.
-abbrev pub after : ℕ → (ℕ → ℕ) → ℕ → ℕ
-after zero f x = x
-after (suc k) f x = after k f (f x)
-
 -- y is the first number at most t that one or more applications of f reach from x: 1 + `more`
 -- applications reach it, and each number reached before it is above t.
 pub record FirstWithin (f : ℕ → ℕ) (t x y : ℕ) : Type 0 where
   pub more : ℕ
-  pub reached : after more f (f x) ≡ y
+  pub reached : iterate f more (f x) ≡ y
   pub small : y ≤ t
-  pub earlier : (j : ℕ) → j < more → t < after j f (f x)
+  pub earlier : (j : ℕ) → j < more → t < iterate f j (f x)
 
 -- b is a narrowed to t: its top is the smaller of t and a's top, and the code of x is the first number
 -- at most the new top that one or more applications of a's rule reach.
