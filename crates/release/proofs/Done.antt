@@ -1,18 +1,40 @@
 -- From what a call answers and leaves by the definition to what every book that keeps the release says of it.
-use Rattle.std.proofs.Common.{◌≡◌, ℕ, List, Result, sym, ◌∙◌, subst}
+use Rattle.std.proofs.Common.{◌≡◌, ℕ, List, length, replicate, Ok, Result, sym, ap, ◌∙◌, subst, ◌-◌, arith}
 use Rattle.meanings.specs.Meaning.{Lawful}
 use Rattle.book.specs.declared.entry.Entry.{Entry}
 use Rattle.book.specs.declared.refusal.Refusal.{Refusal}
 use Rattle.book.specs.declared.role.Role.{Role}
 use Rattle.book.specs.declared.row.Row.{Row}
 use Rattle.book.specs.declared.tally.Tally.{Tally}
-use Rattle.book.specs.Rows.{ColumnMeanings, coding_of}
+use Rattle.book.specs.Rows.{ColumnMeanings, coding_of, blank}
 use Rattle.book.specs.Raw.{put_answer, put_memory, put_taken, withdraw_answer, withdraw_memory, show_answer, turn_back_answer, tally_answer}
 use Rattle.book.specs.Book.{after_put, after_withdraw, Keeps}
 use Rattle.book.proofs.Kept.{put_kept, withdraw_kept, show_kept, turn_back_kept, tally_kept}
 use Rattle.release.specs.Views.{setup_of, plain_setup, with_taken}
-use Rattle.release.specs.Calls.{PutDone, WithdrawDone, ShowDone, TurnBackDone, TallyDone}
+use Rattle.release.specs.Calls.{Allowed, Opened, PutDone, WithdrawDone, ShowDone, TurnBackDone, TallyDone}
 use Rattle.release.specs.declared.plain.Plain.{Plain}
+
+-- what the questions of opening allow is open once row memory is zero
+pub opened : (letters : List ℕ) (memory memory' : List Row) (o : Plain)
+    → Allowed letters (length memory) (Ok o) → memory' ≡ replicate (length memory) blank → Opened letters memory (Ok o) memory'
+opened letters memory memory' o allowed zeroed =
+    let fresh = allowed.fresh in
+    let free : length memory ≡ o.records - 0 = omega (arith, fresh.0) in
+    record {
+      answer = allowed.answer;
+      fresh = (
+        fresh.0,
+        fresh.1,
+        zeroed,
+        λ m. record {
+          places = fresh.1;
+          fits = omega arith;
+          narrow = fresh.2;
+          rows = tt;
+          held = zeroed ∙ ap (λ n. replicate n blank) free;
+        },
+      );
+    }
 
 module _ (o : Plain) (memory : List Row) where
   pub put_done : (m : ColumnMeanings) (xs : List ℕ) (r : Result ℕ Refusal) (o' : Plain) (memory' : List Row)

@@ -1,6 +1,6 @@
 -- What each call on a release answers and leaves: by the definition for all inputs, and by every book that
 -- keeps the release.
-use Rattle.std.specs.Prelude.{◌≡◌, ℕ, ◌&&◌, List, [], length, replicate, Ok, Err, Result, nat_le, nat_lt}
+use Rattle.std.specs.Prelude.{◌≡◌, ℕ, ◌≤◌, ◌&&◌, List, [], length, replicate, Ok, Err, Result, IfOk, nat_le, nat_lt}
 use Rattle.book.specs.declared.entry.Entry.{Entry}
 use Rattle.book.specs.declared.refusal.Refusal.{Refusal}
 use Rattle.book.specs.declared.refusal.Refusal.TheVariants.{RowRecords}
@@ -24,6 +24,11 @@ open_answer letters records = elim (columns_of letters) [ Ok rs ↦ ask (nat_lt 
 abbrev pub Fresh : Result Plain Refusal → (memory memory' : List Row) → Type 0
 Fresh (Ok o) memory memory' = (o.records ≡ length memory) × (o.taken ≡ 0) × (memory' ≡ replicate (length memory) blank) × ((m : ColumnMeanings) → Keeps (setup_of o m) o.taken memory' [])
 Fresh (Err e) memory memory' = memory' ≡ memory
+
+-- The release that the questions of opening allow; it has at most 8 columns.
+pub record Allowed (letters : List ℕ) (records : ℕ) (r : Result Plain Refusal) : Type 0 where
+  pub answer : ReadAs (open_answer letters records) r (λ o. o.columns)
+  pub fresh : IfOk r (λ o. (o.records ≡ records) × (o.taken ≡ 0) × (length o.columns ≤ 8))
 
 pub record Opened (letters : List ℕ) (memory : List Row) (r : Result Plain Refusal) (memory' : List Row) : Type 0 where
   pub answer : ReadAs (open_answer letters (length memory)) r (λ o. o.columns)

@@ -1,5 +1,5 @@
 -- What holds after a list of calls on a release.
-use Rattle.std.specs.Prelude.{◌≡◌, ℕ, List, [], length, Ok, Err, Result}
+use Rattle.std.specs.Prelude.{◌≡◌, ℕ, List, [], length, Ok, Err, Result, IsOk}
 use Rattle.book.specs.declared.call.Answer.{Answer}
 use Rattle.book.specs.declared.refusal.Refusal.{Refusal}
 use Rattle.book.specs.declared.row.Row.{Row}
@@ -35,7 +35,7 @@ pub record RanFrom (letters : List ℕ) (memory : List Row) (m : ColumnMeanings)
   pub records : o.records ≡ length memory
   pub book : BookKept (setup_of o m) [] cs told o.taken memory'
 
--- Why it was not opened: by opening's own refusal, or for want of memory.
+-- Why it was not opened: by opening's own refusal, or for want of memory, where nothing refuses the opening.
 abbrev pub UnopenedBy : (letters : List ℕ) (records : ℕ) → Unopened → Type 0
 UnopenedBy letters records (Refused e) = open_answer letters records ≡ Err e
-UnopenedBy letters records NoMemory = Unit {0}
+UnopenedBy letters records NoMemory = IsOk (open_answer letters records)

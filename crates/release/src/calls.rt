@@ -1,7 +1,7 @@
 // The calls on a release.
 ghost use Rattle.std.specs.Prelude.{◌≡◌, length, replicate};
 ghost use Rattle.book.specs.Rows.{blank};
-ghost use Rattle.release.specs.Calls.{Opened, PutDone, WithdrawDone, ShowDone, TurnBackDone, TallyDone};
+ghost use Rattle.release.specs.Calls.{Allowed, Opened, PutDone, WithdrawDone, ShowDone, TurnBackDone, TallyDone};
 ghost use Rattle.release.specs.Handed.{plain_of};
 ghost use Rattle.release.specs.Views.{meanings_of};
 
@@ -18,15 +18,13 @@ use codings::coding::Coding;
 
 impl Plain {
     // The questions of opening: 1 to 8 columns (14), role letters (15), 1 to 4096 row records (16).
-    pub(crate) fn opened(letters: &[char], memory: &mut [Row]) -> Result<Plain, Refusal>
-        ensures { Opened letters.now memory.old result memory.new }
+    pub(crate) fn allowed(letters: &[char], records: usize) -> Result<Plain, Refusal>
+        ensures { Allowed letters.now records result }
     {
         let columns = Columns::read(letters)?;
-        let records = memory.len();
         if records == 0 || records > 4096 {
             return Err(Refusal::RowRecords);
         }
-        blank_all(memory);
         Ok(Plain {
             columns,
             records,
@@ -56,7 +54,8 @@ impl Release<Open> {
     pub fn open(letters: &[char], memory: &mut [Row]) -> Result<Release<Open>, Refusal>
         ensures { Opened letters.now memory.old (plain_of result) memory.new }
     {
-        let plain = Plain::opened(letters, memory)?;
+        let plain = Plain::allowed(letters, memory.len())?;
+        blank_all(memory);
         Ok(Release { plain, state: Open })
     }
 

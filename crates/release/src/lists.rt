@@ -7,6 +7,7 @@ ghost use Rattle.release.specs.Views.{meanings_of};
 use crate::column_codings::ColumnCodings;
 use crate::plain::Plain;
 use crate::ran::{Ran, Unopened};
+use crate::raw::blank_all;
 use crate::states::{Open, Release};
 use book::call::{Answer, Call};
 use book::refusal::Refusal;
@@ -31,7 +32,8 @@ impl Release<Open> {
     }
 }
 
-// Opens a release and makes a list of calls on it.
+// Opens a release and makes a list of calls on it. Memory for the answers is asked for when nothing else refuses the opening, and
+// before row memory is written.
 pub fn open_and_call<Y: Coding, H: Coding>(
     heap: Global,
     letters: &[char],
@@ -41,8 +43,9 @@ pub fn open_and_call<Y: Coding, H: Coding>(
 ) -> Result<Ran, Unopened>
     ensures { MatchResult result (λ ran. RanFrom letters.now memory.old (meanings_of Y.means H.means codings.now) (map asked_of calls.now) ran.release.plain ran.answers.items memory.new) (λ e. (memory.new ≡ memory.old) × UnopenedBy letters.now (length memory.old) e) }
 {
+    let mut plain = Plain::allowed(letters, memory.len())?;
     let mut answers = Vec::with_capacity(heap, calls.len())?;
-    let mut plain = Plain::opened(letters, memory)?;
+    blank_all(memory);
     plain.make_all(memory, codings, calls, &mut answers);
     Ok(Ran {
         release: Release { plain, state: Open },
