@@ -11,3 +11,5 @@ mod refusals;
 mod rows;
 #[cfg(test)]
 mod sequence;
+#[cfg(test)]
+mod shown;
