@@ -1,6 +1,6 @@
 // Why a call on a release is refused.
 ghost use Rattle.std.specs.Fmt.{styled_text};
-ghost use Rattle.std.specs.Prelude.{◌≡◌, Some as Shown};
+ghost use Rattle.std.specs.Prelude.{◌≡◌, Some as Written};
 ghost use Rattle.book.specs.Refusals.{number_of, words_of};
 ghost use Rattle.book.specs.declared.refusal.Refusal.TheVariants.{AboveTop};
 
@@ -67,9 +67,9 @@ impl Refusal {
 }
 
 impl fmt::Display for Refusal {
-    ghost output = { λ s. Shown (words_of s) };
+    ghost output = { λ s. Written (words_of s) };
 
-    ghost styled_output = { λ s spec. Shown (styled_text spec (words_of s)) };
+    ghost styled_output = { λ s spec. Written (styled_text spec (words_of s)) };
 
     fn fmt<W: fmt::Write>(&self, f: &mut fmt::Formatter<W>) -> fmt::Result {
         f.pad(self.words())
