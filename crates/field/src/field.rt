@@ -48,6 +48,7 @@ pub struct Field {
 
 impl Field {
     // The field of a box width, for the widths that have one.
+    #[inline(always)]
     pub fn of_width(width: u32) -> Option<Field>
         ensures { MatchOption result (low_part width ≡ 0) (λ f. (f.width ≡ width) × (f.low ≡ low_part width)) }
     {
@@ -80,6 +81,7 @@ impl Field {
 
     // The lowest bits of v, as many as the width has: bits' `Width::cut`, but this crate rests on no other.
     #[tactic(auto, using(std::proofs::lemmas::Nat::and_mask, std::proofs::lemmas::Nat::one_shl))]
+    #[inline(always)]
     fn own_bits(self, v: u64) -> u64
         ensures { result ≡ v % 2 ^ self.width }
     {
@@ -87,6 +89,7 @@ impl Field {
     }
 
     // What stands above the width comes back as its product with the low part.
+    #[inline(always)]
     fn fold(self, v: u64) -> u64
         requires within { v < 2 ^ (self.width + self.width) }
         ensures { result ≡ fold self.width self.terms v }
@@ -96,6 +99,7 @@ impl Field {
     }
 
     // The product of h and the low part.
+    #[inline(always)]
     fn taps(self, h: u64) -> u64
         requires within { h < 2 ^ self.width }
         ensures { result ≡ taps self.terms h }
@@ -105,6 +109,7 @@ impl Field {
     }
 
     // What v leaves modulo the polynomial. The low part reaches up to half the width at most, so two folds do.
+    #[inline(always)]
     fn reduce(self, v: u64) -> u64
         requires within { v < 2 ^ (self.width + self.width) }
         ensures { result ≡ reduced self.width self.low v }
@@ -113,6 +118,7 @@ impl Field {
     }
 
     // The product of a and b with nothing taken off.
+    #[inline(always)]
     fn times(self, a: u64, b: u64) -> u64
         requires a_within { a < 2 ^ self.width }
         requires b_within { b < 2 ^ self.width }
@@ -130,6 +136,7 @@ impl Field {
 
     // The product in the field.
     #[tactic(auto, using(crate::proofs::Values::smalls))]
+    #[inline(always)]
     fn product(self, a: u64, b: u64) -> u64
         requires a_within { a < 2 ^ self.width }
         requires b_within { b < 2 ^ self.width }
@@ -140,6 +147,7 @@ impl Field {
     }
 
     // The square of a with nothing taken off: zeros between its bits.
+    #[inline(always)]
     fn spread(self, a: u64) -> u64
         requires within { a < 2 ^ self.width }
         ensures small { result < 2 ^ (self.width + self.width) }
@@ -148,6 +156,7 @@ impl Field {
         spaced_out(a)
     }
 
+    #[inline(always)]
     fn square(self, a: u64) -> u64
         requires within { a < 2 ^ self.width }
         ensures { result ≡ square self.width self.low a }
@@ -157,6 +166,7 @@ impl Field {
 
     // a squared k times.
     #[tactic(auto, using(crate::proofs::Values::smalls))]
+    #[inline(always)]
     fn squared(self, a: u64, k: u32) -> u64
         requires within { a < 2 ^ self.width }
         ensures { result ≡ squared self.width self.low k a }
@@ -168,21 +178,33 @@ impl Field {
         power
     }
 
-    // a^(2^k - 1), by an addition chain: an exponent of k ones is half of them moved up by as many places and the half
-    // again, and one more where k is odd.
+    // a^(2^k - 1), by an addition chain: the exponent's ones, k of them, are made longer from k / 16 and k / 8 on to k.
     #[tactic(auto, using(crate::proofs::Values::smalls))]
+    #[inline(always)]
     fn ones(self, a: u64, k: u32) -> u64
         requires within { a < 2 ^ self.width }
+        requires some { 0 < k }
+        requires few { k < 32 }
         ensures is { result ≡ ones self.width self.low k a }
         ensures root { k + 1 ≡ self.width → Root self.width self.low a result }
     {
-        if k == 0 {
-            return 1;
+        let mut power = a;
+        for i in (0..5u32).rev() {
+            if k >> i > 1 {
+                power = self.longer(a, k >> i, power);
+            }
         }
-        if k == 1 {
-            return a;
-        }
-        let half = self.ones(a, k / 2);
+        power
+    }
+
+    // A link of the chain: k ones are half of them moved up by as many places and the half again, and one more where k is odd.
+    #[tactic(auto, using(crate::proofs::Values::smalls))]
+    #[inline(always)]
+    fn longer(self, a: u64, k: u32, half: u64) -> u64
+        requires within { a < 2 ^ self.width }
+        requires half_is { half ≡ ones self.width self.low (k / 2) a }
+        ensures { result ≡ ones self.width self.low k a }
+    {
         let even = self.product(self.squared(half, k / 2), half);
         if k % 2 == 0 {
             even
@@ -199,9 +221,39 @@ impl Field {
         self.product(self.own_bits(a), self.own_bits(b))
     }
 
-    // The inverse of a box value, the lowest bits of a, and 0 for 0.
-    #[tactic(auto, using(crate::proofs::Values::smalls))]
+    // The inverse of a box value, the lowest bits of a, and 0 for 0. Each width has an arm, in which the compiler knows the field's
+    // numbers and unrolls the chain and the products.
     pub fn inverse(self, a: u64) -> u64
+        ensures is { result ≡ inverse self.width self.low (a % 2 ^ self.width) }
+        ensures inverts { IsInverse self.width self.low (a % 2 ^ self.width) result }
+        ensures again { inverse self.width self.low result ≡ a % 2 ^ self.width }
+    {
+        match self.width {
+            5 => self.known(5).inverted(a),
+            6 => self.known(6).inverted(a),
+            7 => self.known(7).inverted(a),
+            8 => self.known(8).inverted(a),
+            9 => self.known(9).inverted(a),
+            10 => self.known(10).inverted(a),
+            12 => self.known(12).inverted(a),
+            14 => self.known(14).inverted(a),
+            25 => self.known(25).inverted(a),
+            _ => self.inverted(a),
+        }
+    }
+
+    // This field again, by a width that the compiler knows.
+    #[inline(always)]
+    fn known(self, width: u32) -> Field
+        requires own { width ≡ self.width }
+        ensures { (result.width ≡ self.width) × (result.low ≡ self.low) }
+    {
+        Field::of_width(width).unwrap_or(self)
+    }
+
+    #[tactic(auto, using(crate::proofs::Values::smalls))]
+    #[inline(always)]
+    fn inverted(self, a: u64) -> u64
         ensures is { result ≡ inverse self.width self.low (a % 2 ^ self.width) }
         ensures inverts { IsInverse self.width self.low (a % 2 ^ self.width) result }
         ensures again { inverse self.width self.low result ≡ a % 2 ^ self.width }
@@ -211,6 +263,7 @@ impl Field {
 }
 
 // Zeros between the bits of a, which has at most 32: halves moved apart, then quarters, and so on down to single bits.
+#[inline(always)]
 fn spaced_out(a: u64) -> u64
     ensures { result ≡ spaced_out a }
 {
@@ -222,6 +275,7 @@ fn spaced_out(a: u64) -> u64
 }
 
 // a and a moved up, and of both the bits that are kept.
+#[inline(always)]
 fn spaced(a: u64, by: u32, keep: u64) -> u64
     requires short { by < 64 }
     ensures { result ≡ spaced by keep a }
