@@ -1,5 +1,5 @@
 // What was found of a draft so far.
-ghost use Rattle.std.specs.Prelude.{◌≡◌, ◌+◌, ◌<◌, ◌≤◌, length, true, false, nat_lt, slice_index_or, slice_set, unwrap_or, ◌⊎◌, OnSome, IfSome, IfNone, OnOk, if◌then◌else◌, Some as Given, None as Missing};
+ghost use Rattle.std.specs.Prelude.{◌≡◌, ◌+◌, ◌<◌, ◌≤◌, length, true, false, nat_lt, slice_index_or, slice_set, unwrap_or, ◌⊎◌, OnSome, IfSome, IfNone, OnOk, OnErr, if◌then◌else◌, Some as Given, None as Missing};
 ghost use Rattle.spelling.specs.Commands.{index_of, place_of, part_operands, has_use};
 ghost use Rattle.spelling.specs.Spelling.{after_width};
 ghost use Rattle.spelling.specs.Steps.{found};
@@ -110,6 +110,7 @@ impl Found {
         ensures parts { then_parts result (parts_of self.new) ≡ with_operand cursor.entry (part_operands part) (λ _. found cursor.entry.bytes.now (reading_at cursor.entry.at self.old) part) }
         ensures given { OnOk result (given_of self.new ≡ slice_set (given_of self.old) (place_of part) true) }
         ensures there { OnOk result (cursor.entry.at + part_operands part < length cursor.entry.bytes.now) }
+        ensures kept { OnErr result (self.new ≡ self.old) }
     {
         match part {
             Part::Flow(flow) => self.flow = Some(flow),
