@@ -6,7 +6,7 @@ use lib.Bits.{bit_or, or_shifted}
 use lib.Pow.{ones_split, ones_lt, mod-mod-pow, high, mod-pow-add, shl-shr}
 use Rattle.std.proofs.lemmas.Bool.{cases_lt}
 use Rattle.bits.specs.Bits.{bit}
-use Rattle.bits.specs.Words.{sum, less, Cancels, Added, Taken, turned, turned_left, turned_right, TurnsBack, TurnedLeft, TurnedRight}
+use Rattle.bits.specs.Words.{wrapped_sum, wrapped_difference, Cancels, Added, Taken, turned, turned_left, turned_right, TurnsBack, TurnedLeft, TurnedRight}
 use Rattle.bits.proofs.Bits.{bit_mod, bit_low, bit_high, bit_shr, same_bits}
 
 -- the lowest n of m bits set
@@ -44,10 +44,10 @@ pub cancels : (n a b : ℕ) → Cancels n a b
 cancels n a b = record { added = add_take (2 ^ n) a b (pow_pos n); taken = take_add (2 ^ n) a b (pow_pos n) }
 
 -- a sum and a difference that wrap at more bits
-pub sum_wrapped : (n m a b : ℕ) → n ≤ m → (a + b) % 2 ^ m % 2 ^ n ≡ sum n a b
+pub sum_wrapped : (n m a b : ℕ) → n ≤ m → (a + b) % 2 ^ m % 2 ^ n ≡ wrapped_sum n a b
 sum_wrapped n m a b h = mod_wrapped n m (a + b) h
 
-pub less_wrapped : (n m a b : ℕ) → n ≤ m → b ≤ 2 ^ m → (a + (2 ^ m - b)) % 2 ^ m % 2 ^ n ≡ less n a b
+pub less_wrapped : (n m a b : ℕ) → n ≤ m → b ≤ 2 ^ m → (a + (2 ^ m - b)) % 2 ^ m % 2 ^ n ≡ wrapped_difference n a b
 less_wrapped n m a b h small =
     let d = a + (2 ^ m - b) in
     let back : d + b ≡ a + 2 ^ m = omega arith in

@@ -4,25 +4,25 @@ use Rattle.std.specs.Prelude.{◌≡◌, ℕ, ◌+◌, ◌-◌, ◌*◌, ◌/◌
 use Rattle.bits.specs.Bits.{bit}
 
 -- a + b and a - b, wrapped.
-abbrev pub sum : ℕ → ℕ → ℕ → ℕ
-sum n a b = (a + b) % 2 ^ n
+abbrev pub wrapped_sum : ℕ → ℕ → ℕ → ℕ
+wrapped_sum n a b = (a + b) % 2 ^ n
 
-abbrev pub less : ℕ → ℕ → ℕ → ℕ
-less n a b = (a + (2 ^ n - b % 2 ^ n)) % 2 ^ n
+abbrev pub wrapped_difference : ℕ → ℕ → ℕ → ℕ
+wrapped_difference n a b = (a + (2 ^ n - b % 2 ^ n)) % 2 ^ n
 
 -- Adding b and taking it away again leaves a, either way round.
 pub record Cancels (n a b : ℕ) : Type 0 where
-  pub added : less n (sum n a b) b ≡ a % 2 ^ n
-  pub taken : sum n (less n a b) b ≡ a % 2 ^ n
+  pub added : wrapped_difference n (wrapped_sum n a b) b ≡ a % 2 ^ n
+  pub taken : wrapped_sum n (wrapped_difference n a b) b ≡ a % 2 ^ n
 
 -- r is a + b, wrapped.
 pub record Added (n a b r : ℕ) : Type 0 where
-  pub value : r ≡ sum n a b
+  pub value : r ≡ wrapped_sum n a b
   pub cancels : Cancels n a b
 
 -- r is a - b, wrapped.
 pub record Taken (n a b r : ℕ) : Type 0 where
-  pub value : r ≡ less n a b
+  pub value : r ≡ wrapped_difference n a b
   pub cancels : Cancels n a b
 
 -- The number of n bits y, turned left by j places: the upper j bits come round to the low end.

@@ -1,6 +1,6 @@
 -- What a box does to its value, and a row of boxes to a number.
 use Rattle.std.specs.Prelude.{◌≡◌, ℕ, ◌+◌, ◌*◌, ◌/◌, ◌%◌, ◌^◌, ◌<◌, List, [], ◌∷◌, bit_xor}
-use Rattle.bits.specs.Words.{sum, less, turned_left, turned_right}
+use Rattle.bits.specs.Words.{wrapped_sum, wrapped_difference, turned_left, turned_right}
 use Rattle.field.specs.Fields.{inverse}
 use Rattle.field.specs.Widths.{low_part}
 
@@ -10,11 +10,11 @@ flex m x = inverse m (low_part m) x
 
 -- A CPA box with random parts r0 and r1 inverts x XOR r0, adds r1 modulo 2^m, and turns the bits left by 2 within the width.
 unfoldable pub cpa : ℕ → ℕ → ℕ → ℕ → ℕ
-cpa m r0 r1 x = turned_left m 2 (sum m (flex m (bit_xor x r0)) r1)
+cpa m r0 r1 x = turned_left m 2 (wrapped_sum m (flex m (bit_xor x r0)) r1)
 
 -- Its way back, step by step.
 unfoldable pub cpa_back : ℕ → ℕ → ℕ → ℕ → ℕ
-cpa_back m r0 r1 y = bit_xor (flex m (less m (turned_right m 2 y) r1)) r0
+cpa_back m r0 r1 y = bit_xor (flex m (wrapped_difference m (turned_right m 2 y) r1)) r0
 
 -- Two maps of m bits that undo each other.
 pub record Undone (m : ℕ) (f g : ℕ → ℕ) : Type 0 where

@@ -3,7 +3,7 @@ use Rattle.std.proofs.Common.{◌≡◌, ℕ, ◌+◌, ◌-◌, ◌/◌, ◌%◌
 use lib.Bits.{bit_xor, xor_lt, xor_assoc, xor_self, xor_zero_r}
 use Rattle.std.proofs.Math.Nat.{le_of_lt}
 use Rattle.std.proofs.lemmas.Nat.{pow_pos, mod_below}
-use Rattle.bits.specs.Words.{sum, less, turned_left, turned_right}
+use Rattle.bits.specs.Words.{wrapped_sum, wrapped_difference, turned_left, turned_right}
 use Rattle.bits.proofs.Words.{cancels, turns_back, turned_left_below, turned_right_below}
 use Rattle.field.specs.Widths.{low_part}
 use Rattle.field.proofs.Inverses.{inverse_lt, inverse_again}
@@ -43,7 +43,7 @@ xor_undone m r small =
     twice : (x : ℕ) → bit_xor (bit_xor x r) r ≡ x
     twice x = xor_assoc x r r ∙ ap (bit_xor x) (xor_self r) ∙ xor_zero_r x
 
-pub sum_undone : (m r : ℕ) → Undone m (λ x. sum m x r) (λ y. less m y r)
+pub sum_undone : (m r : ℕ) → Undone m (λ x. wrapped_sum m x r) (λ y. wrapped_difference m y r)
 sum_undone m r =
     record {
       within = λ x h. mod_below (x + r) (2 ^ m) (pow_pos m);
@@ -65,8 +65,8 @@ pub cpa_undone : (m r0 r1 : ℕ) → 0 < low_part m → r0 < 2 ^ m → Undone m 
 unfolding cpa cpa_back
 cpa_undone m r0 r1 some small =
     let t = field_good m (low_part m) refl some in
-    after m (λ x. sum m (flex m (bit_xor x r0)) r1) (λ y. bit_xor (flex m (less m y r1)) r0) (turned_left m 2) (turned_right m 2)
-    (after m (λ x. flex m (bit_xor x r0)) (λ y. bit_xor (flex m y) r0) (λ x. sum m x r1) (λ y. less m y r1)
+    after m (λ x. wrapped_sum m (flex m (bit_xor x r0)) r1) (λ y. bit_xor (flex m (wrapped_difference m y r1)) r0) (turned_left m 2) (turned_right m 2)
+    (after m (λ x. flex m (bit_xor x r0)) (λ y. bit_xor (flex m y) r0) (λ x. wrapped_sum m x r1) (λ y. wrapped_difference m y r1)
     (after m (λ x. bit_xor x r0) (λ y. bit_xor y r0) (flex m) (flex m) (xor_undone m r0 small) (flex_undone m some))
     (sum_undone m r1))
     (turned_undone m 2 (le_of_lt t.wide))

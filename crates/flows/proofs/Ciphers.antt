@@ -3,7 +3,7 @@ use Rattle.std.proofs.Common.{◌≡◌, ℕ, ◌-◌, ◌*◌, ◌^◌, ◌<◌
 use lib.Bits.{bit_xor}
 use Rattle.bits.specs.Bits.{bit}
 use Rattle.bits.specs.Orders.{moved, gathered}
-use Rattle.bits.specs.Words.{sum, less}
+use Rattle.bits.specs.Words.{wrapped_sum, wrapped_difference}
 use Rattle.bits.proofs.Bits.{bit_below}
 use Rattle.boxes.specs.Boxes.{cpa_box, cpa_box_back}
 use Rattle.meanings.specs.Meaning.{Lawful, Equal}
@@ -84,17 +84,17 @@ module _ (s : Setting) (f0 f1 f2 g0 g1 g2 : Kind)
   encrypt_same x =
       let n = s.width in
       let veil = moved s.order3 s.k2 in
-      ap (λ z. bit_xor (through_boxes n f2 (moved s.order2 (sum n (through_boxes n f1 (moved s.order1 (sum n z s.k1))) s.k2))) veil) (h0 _)
-      ∙ ap (λ z. bit_xor (through_boxes n f2 (moved s.order2 (sum n z s.k2))) veil) (h1 _)
+      ap (λ z. bit_xor (through_boxes n f2 (moved s.order2 (wrapped_sum n (through_boxes n f1 (moved s.order1 (wrapped_sum n z s.k1))) s.k2))) veil) (h0 _)
+      ∙ ap (λ z. bit_xor (through_boxes n f2 (moved s.order2 (wrapped_sum n z s.k2))) veil) (h1 _)
       ∙ ap (λ z. bit_xor z veil) (h2 _)
 
   pub decrypt_same : (y : ℕ) → cpa_decrypt s f0 f1 f2 y ≡ cpa_decrypt s g0 g1 g2 y
   decrypt_same y =
       let n = s.width in
       let veil = moved s.order3 s.k2 in
-      ap (λ z. less n (less n (gathered s.order0 (through_boxes n f0 (less n (gathered s.order1 (through_boxes n f1 (less n (gathered s.order2 z) s.k2))) s.k1))) s.k0) s.c0) (h2 _)
-      ∙ ap (λ z. less n (less n (gathered s.order0 (through_boxes n f0 (less n (gathered s.order1 z) s.k1))) s.k0) s.c0) (h1 _)
-      ∙ ap (λ z. less n (less n (gathered s.order0 z) s.k0) s.c0) (h0 _)
+      ap (λ z. wrapped_difference n (wrapped_difference n (gathered s.order0 (through_boxes n f0 (wrapped_difference n (gathered s.order1 (through_boxes n f1 (wrapped_difference n (gathered s.order2 z) s.k2))) s.k1))) s.k0) s.c0) (h2 _)
+      ∙ ap (λ z. wrapped_difference n (wrapped_difference n (gathered s.order0 (through_boxes n f0 (wrapped_difference n (gathered s.order1 z) s.k1))) s.k0) s.c0) (h1 _)
+      ∙ ap (λ z. wrapped_difference n (wrapped_difference n (gathered s.order0 z) s.k0) s.c0) (h0 _)
 
 -- A CPA coding whose boxes find their random parts in numbers of n bits.
 pub cpa_is : (p : Parts) (key : List ℕ) → SoundParts p → (s : Setting) (a0 b0 a1 b1 a2 b2 : ℕ) → s ≡ setting p key → p.flow ≡ Cpa

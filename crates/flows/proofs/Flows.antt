@@ -2,7 +2,7 @@
 use Rattle.std.proofs.Common.{◌≡◌, ℕ, ◌-◌, ◌^◌, ◌<◌, ◌≤◌, max, List, refl, ap, ◌∙◌, arith}
 use Rattle.std.proofs.lemmas.Nat.{pow_pos}
 use Rattle.bits.specs.Orders.{IsOrder, moved, gathered}
-use Rattle.bits.specs.Words.{sum, less}
+use Rattle.bits.specs.Words.{wrapped_sum, wrapped_difference}
 use Rattle.bits.specs.Listed.{order}
 use Rattle.bits.specs.declared.order.Order.{Order}
 use Rattle.bits.proofs.Orders.{sound_order, order_moved_below, order_gathered_below, undoes}
@@ -95,7 +95,7 @@ equal n m f g c =
     down x h = let t = c.top in let p = pow_pos n in omega arith
 
 module _ (s : Setting) (fits : Fits s) where
-  adds : (k : ℕ) → Undone s.width (λ x. sum s.width x k) (λ y. less s.width y k)
+  adds : (k : ℕ) → Undone s.width (λ x. wrapped_sum s.width x k) (λ y. wrapped_difference s.width y k)
   adds k = sum_undone s.width k
 
   boxes : (f g : Kind) → Boxed f g → Undone s.width (through_boxes s.width f) (through_boxes s.width g)

@@ -2,7 +2,7 @@
 use Rattle.std.specs.Prelude.{ℕ, ◌+◌, ◌-◌, ◌*◌, ◌/◌, List, [], take, true, false, nat_lt, slice_index_or}
 use Rattle.bits.specs.Bits.{bit}
 use Rattle.bits.specs.Orders.{moved}
-use Rattle.bits.specs.Words.{sum}
+use Rattle.bits.specs.Words.{wrapped_sum}
 use Rattle.boxes.specs.Boxes.{flex_box, cpa, cpa_back}
 use Rattle.flows.specs.Flows.{through_boxes, Kind}
 use Rattle.flows.specs.Strings.{byte_bit, number_at}
@@ -40,7 +40,7 @@ order_of p k size = take size (slice_index_or p.orders k [])
 -- Above 32 bits the lowest 64 bits of the key plus C1 go through order 4, the Flex boxes of width 64 and order 5.
 abbrev pub expanded : Parts → List ℕ → ℕ
 expanded p key =
-    let u = sum 64 (number_at (byte_bit key) 0 64) p.c1 in
+    let u = wrapped_sum 64 (number_at (byte_bit key) 0 64) p.c1 in
     let v = moved (order_of p 4 64) u in
     let w = through_boxes 64 flex_box v in
     moved (order_of p 5 64) w

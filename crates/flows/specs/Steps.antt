@@ -1,7 +1,7 @@
 -- The steps of the cipher, each a coding of its own, and the chains that they make.
 use Rattle.std.specs.Prelude.{ℕ, ◌-◌, ◌^◌, List, bit_xor}
 use Rattle.bits.specs.Orders.{moved, gathered}
-use Rattle.bits.specs.Words.{sum, less}
+use Rattle.bits.specs.Words.{wrapped_sum, wrapped_difference}
 use Rattle.boxes.specs.Boxes.{flex_box}
 use Rattle.meanings.specs.Layers.{chained}
 use Rattle.meanings.specs.Meaning.{Meaning}
@@ -12,7 +12,7 @@ abbrev pub block : ℕ → (ℕ → ℕ) → (ℕ → ℕ) → Meaning
 block n does undoes = record { top = 2 ^ n - 1; rule = does; back = undoes }
 
 abbrev pub added : ℕ → ℕ → Meaning
-added n k = block n (λ x. sum n x k) (λ y. less n y k)
+added n k = block n (λ x. wrapped_sum n x k) (λ y. wrapped_difference n y k)
 
 abbrev pub reordered : ℕ → List ℕ → Meaning
 reordered n r = block n (moved r) (gathered r)

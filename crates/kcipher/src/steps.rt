@@ -3,7 +3,7 @@ ghost use Rattle.std.specs.Prelude.{◌≡◌, ◌^◌, ◌<◌};
 ghost use Rattle.std.specs.Int.Bits.{bit_xor};
 ghost use Rattle.bits.specs.Listed.{order};
 ghost use Rattle.bits.specs.Orders.{moved, gathered};
-ghost use Rattle.bits.specs.Words.{sum, less};
+ghost use Rattle.bits.specs.Words.{wrapped_sum, wrapped_difference};
 ghost use Rattle.boxes.specs.Boxes.{Boxed};
 ghost use Rattle.boxes.specs.Kinds.{sum_undone, xor_undone};
 ghost use Rattle.flows.specs.Flows.{through_boxes};
@@ -33,9 +33,9 @@ impl Addition {
 impl Map for Addition {
     ghost bits = { λ s. s.width.bits };
 
-    ghost does = { λ s x. sum s.width.bits x s.constant };
+    ghost does = { λ s x. wrapped_sum s.width.bits x s.constant };
 
-    ghost undoes = { λ s y. less s.width.bits y s.constant };
+    ghost undoes = { λ s y. wrapped_difference s.width.bits y s.constant };
 
     ghost undone = { λ s. sum_undone s.width.bits s.constant };
 

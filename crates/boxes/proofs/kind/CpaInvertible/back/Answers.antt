@@ -1,7 +1,7 @@
 use Rattle.std.proofs.Common.{◌%◌, ◌^◌, ◌<◌, ap, ◌∙◌}
 use lib.Bits.{xor_lt}
 use Rattle.std.proofs.lemmas.Nat.{pow_pos, mod_below}
-use Rattle.bits.specs.Words.{less, turned_right}
+use Rattle.bits.specs.Words.{wrapped_difference, turned_right}
 use Rattle.boxes.proofs.Sent.{sent_back_is}
 use Rattle.boxes.proofs.kind.CpaInvertible.back.Goals as goal
 
@@ -16,7 +16,7 @@ returns c =
       is = rw (← c.at-r0.ensures.0, ← c.at-r0.ensures.1)
           (sent_back_is m parts.r0 parts.r1 c.args.y _ _ _ _
           (c.rotate_right.ensures.value ∙ ap (λ z. turned_right z 2 c.args.y) w)
-          (c.sub.ensures.value ∙ ap (λ z. less z c.rotate_right.result parts.r1) w)
+          (c.sub.ensures.value ∙ ap (λ z. wrapped_difference z c.rotate_right.result parts.r1) w)
           c.invert.ensures.is cut);
       small = xor_lt m c.invert.result c.cut.result c.invert.ensures.small below;
     }
