@@ -14,7 +14,7 @@ use Rattle.std.specs.declared.alloc.Global.{Global}
 use Rattle.std.specs.declared.vec.Vec.{Vec}
 use Rattle.jobs.proofs.Reading.{inside_grown}
 use Rattle.jobs.proofs.Squeezed.{squeezed_nil, squeezed_cons}
-use Rattle.jobs.proofs.Wording.{words_are, words_space, no_words, apart_letter}
+use Rattle.jobs.proofs.Wording.{words_are, words_space, words_letter, no_words, apart_letter}
 use Rattle.jobs.specs.Heads.{behind, given, some_of, is_given, SpellsPile, SpellsRoles, Once, OfHead, Good, Holds, Over, Whole, Lacks, FirstWrong, LineWrong, Spoilt, Taken, has_line}
 use Rattle.jobs.specs.Parsed.{Grown, Said, Spelt, texts}
 use Rattle.jobs.specs.Places.{OnLine}
@@ -66,15 +66,6 @@ pile_apart names s (Turned' p below) over h = apart_letter s _ _ over h.is refl
 pile_apart names s (Narrowed' p below to) over h = apart_letter s _ _ over h.is refl
 
 -- ---- what one line more gives
-
-first_onto : (b : ℕ) (xs : List (List ℕ)) → (v : List ℕ) × (vs : List (List ℕ)) × (filter has_bytes (onto_first b xs) ≡ (b ∷ v) ∷ vs)
-first_onto b [] = ([], [], refl)
-first_onto b (x ∷ xs) = (x, filter has_bytes xs, refl)
-
-words_letter : (b : ℕ) (s : List ℕ) → is_space b ≡ false → (v : List ℕ) × (vs : List (List ℕ)) × (words (b ∷ s) ≡ (b ∷ v) ∷ vs)
-words_letter b s e =
-    let first = first_onto b (slice_split is_space s) in
-    (first.0, first.1, words_are (b ∷ s) ∙ ap (filter has_bytes) (slice_split-cons_no is_space b s e) ∙ first.2)
 
 comment_at : (b : ℕ) (s : List ℕ) (v : Bool) → is_space b ≡ v → (slice_index (squeezed s) 0 ≡ 35 → (v : List ℕ) × (vs : List (List ℕ)) × (words s ≡ (35 ∷ v) ∷ vs))
     → slice_index (squeezed (b ∷ s)) 0 ≡ 35 → (v : List ℕ) × (vs : List (List ℕ)) × (words (b ∷ s) ≡ (35 ∷ v) ∷ vs)
@@ -234,8 +225,8 @@ spoilt_lacking ls n f h e g over absent wrong line column =
     }
 
 wrong_given : (line : List ℕ) (old new : HeadWord → Bool) (w : Wrong) → ((h : HeadWord) → new h ≡ old h) → LineWrong line old w → LineWrong line new w
-wrong_given line old new w same (inl e) = inl e
-wrong_given line old new w same (inr (h, b, t)) = inr (h, b, λ k. t (sym (same h) ∙ k))
+wrong_given line old new w same (speaks, inl e) = (speaks, inl e)
+wrong_given line old new w same (speaks, inr (h, b, t)) = (speaks, inr (h, b, λ k. t (sym (same h) ∙ k)))
 
 pub spoilt_line : (ls : List (List ℕ)) (n : ℕ) (f : Found) (line : List ℕ) (size : ℕ) (e : BadText) → Good (take n ls) f → n < length ls → line ≡ get_or ls n line
     → OnLine (n + 1) 1 size e.place → LineWrong line (has_line f) e.wrong → Spoilt ls e

@@ -1,13 +1,17 @@
 -- Texts as their words.
-use Rattle.std.proofs.Common.{◌≡◌, ℕ, ◌+◌, ◌<◌, ◌||◌, Bool, true, false, List, [], ◌∷◌, ◌++◌, length, take, drop, get_or, refl, ap, sym, subst, ◌∙◌, append-nil, add-one, arith}
+use Rattle.std.proofs.Common.{◌≡◌, ℕ, ◌+◌, ◌-◌, ◌<◌, ◌≤◌, ◌==◌, ◌⊎◌, ◌||◌, Bool, true, false, List, [], ◌∷◌, ◌++◌, length, take, drop, get_or, refl, ap, sym, subst, ◌∙◌, append-nil, add-one, inl, inr, arith}
 use Rattle.std.proofs.Math.Seq.{take-suc, drop-length}
+use Rattle.std.proofs.lemmas.Bool.{eqb-true, eqb-false}
+use Rattle.std.proofs.lemmas.List.{length-drop}
 use Rattle.std.proofs.lemmas.List.Splits.{slice_split-cons_yes, slice_split-cons_no}
 use Rattle.std.specs.List.{AllByRecursion, filter, slice_split, onto_first}
+use Rattle.std.specs.Prelude.{slice_index}
 use Rattle.jobs.proofs.Squeezed.{squeezed_cons, from_next}
-use Rattle.jobs.specs.Places.{After, NextWord, left_of, rest_of, words_of}
-use Rattle.jobs.specs.Signs.{is_space, ends_word, has_bytes, squeezed, words, WordOver, Apart}
-use Rattle.jobs.specs.Steps.{Operands, StepSaid, WordRead, step_text, word_of, word_text}
+use Rattle.jobs.specs.Places.{After, OnLine, NextWord, Within, left_of, rest_of, words_of}
+use Rattle.jobs.specs.Signs.{is_space, ends_word, has_bytes, squeezed, words, WordOver, Flush, Apart}
+use Rattle.jobs.specs.Steps.{Begins, Operands, Speaks, Unknown, StepSaid, WordRead, step_text, word_of, word_text}
 use Rattle.jobs.specs.declared.cursor.Cursor.{Cursor}
+use Rattle.jobs.specs.declared.cursor.Source.{Source}
 use Rattle.jobs.specs.declared.job.LineWord.{LineWord}
 use Rattle.jobs.specs.declared.job.LineWord.TheVariants.{Head as HeadLine, Step as StepLine}
 use Rattle.jobs.specs.declared.job.Step.{Step}
@@ -15,6 +19,7 @@ use Rattle.jobs.specs.declared.job.StepWord.{StepWord}
 use Rattle.jobs.specs.declared.job.StepWord.TheVariants as word
 use Rattle.jobs.specs.declared.job.WordLine.{WordLine}
 use Rattle.jobs.specs.declared.place.HeadWord.TheVariants as head
+use Rattle.jobs.specs.declared.place.Place.{Place}
 
 abbrev parts : List ℕ → List (List ℕ)
 parts s = slice_split is_space s
@@ -176,3 +181,144 @@ step_said line number w s t read is named apart operands = record {
   is = read.words apart ∙ ap (λ z. word_text z ∷ words_of w.after) is ∙ ap (λ z. step_text z ∷ words_of w.after) (sym named);
   operands = operands;
 }
+
+-- ---- the word that a line begins with
+
+first_onto : (b : ℕ) (xs : List (List ℕ)) → (v : List ℕ) × (vs : List (List ℕ)) × (filter has_bytes (onto_first b xs) ≡ (b ∷ v) ∷ vs)
+first_onto b [] = ([], [], refl)
+first_onto b (x ∷ xs) = (x, filter has_bytes xs, refl)
+
+pub words_letter : (b : ℕ) (s : List ℕ) → is_space b ≡ false → (v : List ℕ) × (vs : List (List ℕ)) × (words (b ∷ s) ≡ (b ∷ v) ∷ vs)
+words_letter b s e =
+    let first = first_onto b (slice_split is_space s) in
+    (first.0, first.1, words_are (b ∷ s) ∙ ap (filter has_bytes) (slice_split-cons_no is_space b s e) ∙ first.2)
+
+-- The first part of a text, into which no word goes on.
+record FirstPart (b : List ℕ) : Type 0 where
+  part : List ℕ
+  more : List (List ℕ)
+  is : parts b ≡ part ∷ more
+  over : WordOver part
+
+onto_sign : (y : ℕ) (ys : List ℕ) (xs : List (List ℕ)) → ends_word y ≡ true → parts (y ∷ ys) ≡ onto_first y xs → FirstPart (y ∷ ys)
+onto_sign y ys [] over e = record { part = y ∷ []; more = []; is = e; over = over }
+onto_sign y ys (x ∷ xs) over e = record { part = y ∷ x; more = xs; is = e; over = over }
+
+first_part_at : (y : ℕ) (ys : List ℕ) (v : Bool) → is_space y ≡ v → ends_word y ≡ true → FirstPart (y ∷ ys)
+first_part_at y ys true i over = record { part = []; more = parts ys; is = slice_split-cons_yes is_space y ys i; over = tt }
+first_part_at y ys false i over = onto_sign y ys (parts ys) over (slice_split-cons_no is_space y ys i)
+
+first_part : (b : List ℕ) → WordOver b → FirstPart b
+first_part [] over = record { part = []; more = []; is = refl; over = tt }
+first_part (y ∷ ys) over = first_part_at y ys (is_space y) refl over
+
+parts_behind : (u b p : List ℕ) (ps : List (List ℕ)) → AllByRecursion (λ b. is_space b ≡ false) u → parts b ≡ p ∷ ps → parts (u ++ b) ≡ (u ++ p) ∷ ps
+parts_behind [] b p ps h e = e
+parts_behind (x ∷ u) b p ps h e = slice_split-cons_no is_space x (u ++ b) h.0 ∙ ap (onto_first x) (parts_behind u b p ps h.1 e)
+
+-- The first word begins with what no word goes on behind.
+record FirstIs (s u : List ℕ) : Type 0 where
+  part : List ℕ
+  more : List (List ℕ)
+  is : words s ≡ (u ++ part) ∷ more
+  over : WordOver part
+
+first_is : (u b : List ℕ) → AllByRecursion (λ b. ends_word b ≡ false) u → 0 < length u → WordOver b → FirstIs (u ++ b) u
+first_is [] b h some over = let k : ⊥ = omega (arith, some) in elim k [ ]
+first_is (x ∷ u) b h some over =
+    let first = first_part b over in
+    record {
+      part = first.part;
+      more = filter has_bytes first.more;
+      is = words_are ((x ∷ u) ++ b) ∙ ap (filter has_bytes) (parts_behind (x ∷ u) b first.part first.more (no_spaces (x ∷ u) h) first.is);
+      over = first.over;
+    }
+
+no_letter : (y : ℕ) (w m : List ℕ) → WordOver m → m ≡ y ∷ w → ends_word y ≡ false → ⊥
+no_letter y w m over e q = let k : true ≡ false = sym (subst WordOver e over) ∙ q in cc
+
+same_run : (u w m n : List ℕ) → AllByRecursion (λ b. ends_word b ≡ false) u → AllByRecursion (λ b. ends_word b ≡ false) w → WordOver m → WordOver n
+    → u ++ m ≡ w ++ n → u ≡ w
+same_run [] [] m n h k p q e = refl
+same_run [] (y ∷ w) m n h k p q e = elim (no_letter y (w ++ n) m p e k.0) [ ]
+same_run (x ∷ u) [] m n h k p q e = elim (no_letter x (u ++ m) n q (sym e) h.0) [ ]
+same_run (x ∷ u) (y ∷ w) m n h k p q e =
+    let first : x ≡ y = cc in
+    let rest : u ++ m ≡ w ++ n = cc in
+    ap (λ z. z ∷ u) first ∙ ap (λ z. y ∷ z) (same_run u w m n h.1 k.1 p q rest)
+
+heads_same : (x y : List ℕ) (xs ys : List (List ℕ)) → x ∷ xs ≡ y ∷ ys → x ≡ y
+heads_same x y xs ys e = cc
+
+same_word : (u w b c : List ℕ) → AllByRecursion (λ b. ends_word b ≡ false) u → AllByRecursion (λ b. ends_word b ≡ false) w → 0 < length u → 0 < length w
+    → WordOver b → WordOver c → words (u ++ b) ≡ words (w ++ c) → u ≡ w
+same_word u w b c h k p q over end e =
+    let f = first_is u b h p over in
+    let g = first_is w c k q end in
+    same_run u w f.part g.part h k f.over g.over (heads_same _ _ f.more g.more (sym f.is ∙ e ∙ g.is))
+
+word_whole : (w : LineWord) → AllByRecursion (λ b. ends_word b ≡ false) (word_text w)
+word_whole (HeadLine head.Yarn) = (refl, (refl, (refl, (refl, tt))))
+word_whole (HeadLine head.Hands) = (refl, (refl, (refl, (refl, (refl, tt)))))
+word_whole (HeadLine head.Roles) = (refl, (refl, (refl, (refl, (refl, tt)))))
+word_whole (HeadLine head.Records) = (refl, (refl, (refl, (refl, (refl, (refl, (refl, tt)))))))
+word_whole (StepLine word.Rows) = (refl, (refl, (refl, (refl, tt))))
+word_whole (StepLine word.Withdraw) = (refl, (refl, (refl, (refl, (refl, (refl, (refl, (refl, tt))))))))
+word_whole (StepLine word.Show) = (refl, (refl, (refl, (refl, tt))))
+word_whole (StepLine word.TurnBack) = (refl, (refl, (refl, (refl, (refl, (refl, (refl, (refl, tt))))))))
+word_whole (StepLine word.Tally) = (refl, (refl, (refl, (refl, (refl, tt)))))
+word_whole (StepLine word.Draft) = (refl, (refl, (refl, (refl, (refl, tt)))))
+word_whole (StepLine word.Sheet) = (refl, (refl, (refl, (refl, (refl, tt)))))
+
+-- What begins with a sign begins with no word.
+sign_first : (w s b : List ℕ) → WordOver s → Flush s → (s ≡ [] → ⊥) → AllByRecursion (λ b. ends_word b ≡ false) w → 0 < length w → WordOver b → words s ≡ words (w ++ b) → ⊥
+sign_first w [] b over flush some whole long end e = some refl
+sign_first [] (y ∷ ys) b over flush some whole long end e = let k : ⊥ = omega (arith, long) in k
+sign_first (x ∷ w) (y ∷ ys) b over flush some whole long end e =
+    let f = first_is (x ∷ w) b whole long end in
+    let g = words_letter y ys flush in
+    let heads : y ∷ g.0 ≡ x ∷ (w ++ f.part) = heads_same _ _ g.1 f.more (sym g.2 ∙ e ∙ f.is) in
+    ends_twice y x g.0 (w ++ f.part) heads over whole.0
+
+-- The word that comes first is none of a job's.
+pub unknown : (line s w r : List ℕ) → words line ≡ words s → s ≡ w ++ r → AllByRecursion (λ b. ends_word b ≡ false) w → WordOver r → Flush s → (s ≡ [] → ⊥)
+    → ((l : LineWord) → w ≡ word_text l → ⊥) → Unknown line
+unknown line s [] r all is whole over flush some none l begins =
+    sign_first (word_text l) s begins.behind (subst WordOver (sym is) over) flush some (word_whole l) (word_text_some l) begins.over (sym all ∙ begins.is)
+unknown line s (x ∷ w) r all is whole over flush some none l begins =
+    let long : 0 < length (x ∷ w) = omega arith in
+    none l (same_word (x ∷ w) (word_text l) r begins.behind whole (word_whole l) long (word_text_some l) over begins.over (sym (ap words is) ∙ sym all ∙ begins.is))
+
+-- ---- lines that are not blank
+
+pub left_some : (bs : List ℕ) (at : ℕ) → at ≤ length bs → (at == length bs) ≡ false → drop at bs ≡ [] → ⊥
+left_some bs at low more e =
+    let none : length bs - at ≡ 0 = sym (length-drop at bs) ∙ ap length e in
+    eqb-false at (length bs) more (omega (arith, none, low))
+
+hash_first : (y : ℕ) (ys w r : List ℕ) → y ∷ ys ≡ w ++ r → WordOver r → (get_or w 0 0 ≡ 35 → ⊥) → y ≡ 35 → ⊥
+hash_first y ys [] [] is over other e = cc
+hash_first y ys [] (z ∷ zs) is over other e =
+    let same : z ≡ 35 = cc in
+    let k : true ≡ false = sym over ∙ ap ends_word same in
+    cc
+hash_first y ys (x ∷ w) r is over other e = other cc
+
+speaks_at : (s t w r : List ℕ) → t ≡ squeezed s → s ≡ w ++ r → WordOver r → Flush s → (s ≡ [] → ⊥) → (get_or w 0 0 ≡ 35 → ⊥) → (t ≡ []) ⊎ (slice_index t 0 ≡ 35) → ⊥
+speaks_at [] t w r all is over flush some other blank = some refl
+speaks_at (y ∷ ys) t w r all is over flush some other (inl e) = let k = sym e ∙ all ∙ squeezed_cons y ys false flush in cc
+speaks_at (y ∷ ys) t w r all is over flush some other (inr e) =
+    hash_first y ys w r is over other (ap (λ z. slice_index z 0) (sym (all ∙ squeezed_cons y ys false flush)) ∙ e)
+
+pub speaks : (line s w r : List ℕ) → squeezed line ≡ squeezed s → s ≡ w ++ r → WordOver r → Flush s → (s ≡ [] → ⊥) → (get_or w 0 0 ≡ 35 → ⊥) → Speaks line
+speaks line s w r all is over flush some other blank = speaks_at s (squeezed line) w r all is over flush some other blank
+
+pub no_bytes : (w : List ℕ) → (length w == 0) ≡ true → get_or w 0 0 ≡ 35 → ⊥
+no_bytes [] e k = cc
+no_bytes (b ∷ w) e k = let none : length (b ∷ w) ≡ 0 = eqb-true (length (b ∷ w)) 0 e in omega (arith, none)
+
+-- A place on a whole line.
+pub on_line : (s : Source) (number : ℕ) (line : List ℕ) (p : Place) → s.bytes.now ≡ line → s.start.line ≡ number → s.start.column ≡ 1 → Within s p → OnLine number 1 (length line) p
+on_line s number line p bytes on from within =
+    let long : length s.bytes.now ≡ length line = ap length bytes in
+    record { same_line = within.same_line ∙ on; from = omega (arith, from, within.from); to = omega (arith, from, long, within.to) }

@@ -31,6 +31,11 @@ abbrev pub WordOver : List ℕ → Type 0
 WordOver [] = Unit {0}
 WordOver (b ∷ bs) = ends_word b ≡ true
 
+-- No space comes first.
+abbrev pub Flush : List ℕ → Type 0
+Flush [] = Unit {0}
+Flush (b ∷ bs) = is_space b ≡ false
+
 -- Nothing follows a word, or a space does.
 abbrev pub Apart : List ℕ → Type 0
 Apart [] = Unit {0}

@@ -85,9 +85,20 @@ pub record Begins (w line : List ℕ) : Type 0 where
   pub is : words line ≡ words (w ++ behind)
   pub over : WordOver behind
 
--- Why a line is refused as a step: no line begins as it does; or it is one of the head; or it is a step, and its operands are wrong.
+-- A line is neither empty nor a comment.
+abbrev pub Speaks : List ℕ → Type 0
+Speaks line = IsBlank line → ⊥
+
+-- A line begins with no word of a job.
+abbrev pub Unknown : List ℕ → Type 0
+Unknown line = (w : LineWord) → Begins (word_text w) line → ⊥
+
+-- Why a line is refused as a step, which no empty line and no comment is: no line begins as it does; or it is one of the head; or it
+-- is a step, and its operands are wrong.
 abbrev pub StepWrong : List ℕ → Wrong → Type 0
-StepWrong line w = (w ≡ UnknownWord) ⊎ ((h : HeadWord) × Begins (head_text h) line × (w ≡ LateHead)) ⊎ ((s : StepWord) × Begins (step_text s) line)
+StepWrong line w =
+    Speaks line
+    × (((w ≡ UnknownWord) × Unknown line) ⊎ ((h : HeadWord) × Begins (head_text h) line × (w ≡ LateHead)) ⊎ ((s : StepWord) × Begins (step_text s) line))
 
 -- A line begins with a word.
 pub record WordRead (line : List ℕ) (number : ℕ) (w : WordLine) : Type 0 where
@@ -95,3 +106,4 @@ pub record WordRead (line : List ℕ) (number : ℕ) (w : WordLine) : Type 0 whe
   pub text : words line ≡ words (word_text w.word ++ left_of w.after)
   pub over : WordOver (left_of w.after)
   pub words : Apart (left_of w.after) → words line ≡ word_text w.word ∷ words_of w.after
+  pub speaks : Speaks line

@@ -1,7 +1,7 @@
 // Going over a text.
 ghost use Rattle.std.specs.List.{AllByRecursion};
 ghost use Rattle.std.specs.Prelude.{◌≡◌, ◌≤◌, ◌<◌, ◌++◌, false, length, take, drop, IfSome};
-ghost use Rattle.jobs.specs.Signs.{is_space, ends_word, squeezed, words, WordOver, code_of, Numeral};
+ghost use Rattle.jobs.specs.Signs.{is_space, ends_word, squeezed, words, WordOver, Flush, code_of, Numeral};
 
 use crate::place::{BadText, Place, Sign, Wrong};
 use std::str;
@@ -39,6 +39,7 @@ fn count_spaces(bytes: &[u8]) -> usize
     ensures within { result ≤ length bytes.now }
     ensures blank { squeezed (drop result bytes.now) ≡ squeezed bytes.now }
     ensures apart { words (drop result bytes.now) ≡ words bytes.now }
+    ensures flush { Flush (drop result bytes.now) }
 {
     for (i, byte) in bytes.iter().enumerate() {
         if !is_space(*byte) {
@@ -149,6 +150,7 @@ impl<'a> Cursor<'a> {
     pub(crate) fn past_spaces(self) -> Cursor<'a>
         ensures after { After self.entry result [] }
         ensures apart { words_of result ≡ words_of self.entry }
+        ensures flush { Flush (left_of result) }
     {
         self.past(count_spaces(self.rest()))
     }

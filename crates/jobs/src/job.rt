@@ -1,13 +1,14 @@
 // Reading a job: its head, and then its steps, a line each.
-ghost use Rattle.std.specs.Prelude.{◌≡◌, ◌+◌, ◌<◌, ◌^◌, ◌++◌, [], ◌∷◌, true, false, length, IfOk, IfSome, MatchResult, MatchOption};
+ghost use Rattle.std.specs.Prelude.{◌≡◌, ◌+◌, ◌<◌, ◌^◌, ◌++◌, [], ◌∷◌, true, false, length, IfOk, MatchResult, MatchOption};
 ghost use Rattle.std.specs.Str.{chars};
 ghost use Rattle.std.specs.Str.Lines.{lines as lines_of};
 ghost use Rattle.jobs.specs.Heads.{SpellsRoles, Whole, Spoilt};
+ghost use Rattle.jobs.specs.declared.job.LineWord.{LineWord as LineWordOf};
 ghost use Rattle.jobs.specs.declared.place.HeadWord.{HeadWord as HeadWordOf};
 ghost use Rattle.jobs.specs.declared.place.Wrong.TheVariants.{MissingLine, TwiceGiven, UnknownWord};
 ghost use Rattle.jobs.specs.Places.{OnLine, InText, left_of, rest_of, words_of};
 ghost use Rattle.jobs.specs.Signs.{squeezed, words, WordOver, Apart};
-ghost use Rattle.jobs.specs.Steps.{IsBlank, WordRead, Says, StepWrong, Operands, IsEntry, IsRow, word_text, word_of};
+ghost use Rattle.jobs.specs.Steps.{IsBlank, WordRead, Says, StepWrong, Speaks, Unknown, Operands, IsEntry, IsRow, word_text, word_of};
 
 use crate::cursor::{Cursor, Source};
 use crate::parse::whole;
@@ -73,7 +74,7 @@ struct WordLine<'a> {
 }
 
 fn word_of(word: &[u8]) -> Option<LineWord>
-    ensures { IfSome result (λ w. word.now ≡ word_text w) }
+    ensures { MatchOption result ((w : LineWordOf) → word.now ≡ word_text w → ⊥) (λ w. word.now ≡ word_text w) }
 {
     match word {
         b"yarn" => Some(LineWord::Head(HeadWord::Yarn)),
@@ -93,7 +94,7 @@ fn word_of(word: &[u8]) -> Option<LineWord>
 
 // The word of a line, or None where the line is empty or a comment.
 fn word_line(line: &str, number: usize) -> Result<Option<WordLine<'_>>, BadText>
-    ensures { MatchResult result (λ l. MatchOption l (IsBlank line.now) (λ w. WordRead line.now number w)) (λ e. OnLine number 1 (length line.now) e.place × (e.wrong ≡ UnknownWord)) }
+    ensures { MatchResult result (λ l. MatchOption l (IsBlank line.now) (λ w. WordRead line.now number w)) (λ e. OnLine number 1 (length line.now) e.place × (e.wrong ≡ UnknownWord) × Speaks line.now × Unknown line.now) }
 {
     let start = Place {
         line: number,

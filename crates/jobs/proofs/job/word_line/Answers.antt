@@ -1,11 +1,12 @@
-use Rattle.std.proofs.Common.{◌≡◌, ◌∷◌, ◌++◌, ◌<◌, length, ap, sym, ◌∙◌, drop, inl, subst}
+use Rattle.std.proofs.Common.{◌≡◌, ◌∷◌, ◌++◌, ◌<◌, ◌≤◌, length, get_or, ap, sym, ◌∙◌, drop, inl, subst}
 use Rattle.jobs.specs.Places.{left_of, rest_of, words_of}
 use Rattle.jobs.specs.Signs.{squeezed, words}
 use Rattle.jobs.specs.declared.cursor.Source.{Source}
 use Rattle.jobs.specs.declared.place.Place.{Place}
 use Rattle.jobs.proofs.Squeezed.{at_the_end}
-use Rattle.jobs.proofs.Wording.{first_word, word_text_some}
+use Rattle.jobs.proofs.Wording.{first_word, word_text_some, left_some, no_bytes, on_line, speaks, unknown}
 use Rattle.jobs.proofs.job.word_line.Goals as goal
+use Rattle.jobs.proofs.job.word_line.Goals.{else-not-is_empty-via-then-not-is_empty+else-word-eq35, else-not-is_empty-via-else-not-is_empty}
 
 pub returns-then-is_end : goal.returns-then-is_end
 returns-then-is_end c =
@@ -24,6 +25,13 @@ returns-in-Some c =
     let gap = c.past_spaces-here.ensures in
     let source = gap.after.same ∙ c.new-2.ensures.source in
     let named = c.in-Some.ensures in
+    let here = c.past_spaces-here.result in
+    let more = left_some here.source.bytes.now here.at here.within (sym c.is_end.ensures ∙ c.if-is_end.false) in
+    let other : get_or c.word.result.0.now 0 0 ≡ 35 → ⊥ =
+    elim c.else-not-is_empty.branch [
+      | else-not-is_empty-via-then-not-is_empty+else-word-eq35 w ↦ w.if-word-eq35.false
+      | else-not-is_empty-via-else-not-is_empty w ↦ no_bytes c.word.result.0.now (sym c.is_empty.ensures ∙ w.if-not-is_empty.false)
+    ] in
     let some : 0 < length c.word.result.0.now = subst (λ z. 0 < length z) (sym named) (word_text_some c.in-Some.word) in
     record {
       place = record {
@@ -36,4 +44,29 @@ returns-in-Some c =
       over = word.over;
       words = λ apart. first_word c.args.line.now start c.past_spaces-here.result c.word.result.1 c.word.result.0.now (ap words line) gap.apart word.is word.whole some apart
           ∙ ap (λ z. z ∷ words_of c.word.result.1) named;
+      speaks = speaks c.args.line.now (left_of here) c.word.result.0.now _ (sym (ap squeezed line) ∙ gap.after.text) word.is word.over gap.flush more other;
     }
+
+pub returns-in-None : goal.returns-in-None
+returns-in-None c =
+    let start = c.new-2.result in
+    let word = c.word.ensures in
+    let line : left_of start ≡ c.args.line.now =
+    ap (λ k. drop k start.source.bytes.now) c.new-2.ensures.at ∙ ap (λ (z : Source). z.bytes.now) c.new-2.ensures.source ∙ c.new.ensures.bytes in
+    let gap = c.past_spaces-here.ensures in
+    let here = c.past_spaces-here.result in
+    let more = left_some here.source.bytes.now here.at here.within (sym c.is_end.ensures ∙ c.if-is_end.false) in
+    let other : get_or c.word.result.0.now 0 0 ≡ 35 → ⊥ =
+    elim c.else-not-is_empty.branch [
+      | else-not-is_empty-via-then-not-is_empty+else-word-eq35 w ↦ w.if-word-eq35.false
+      | else-not-is_empty-via-else-not-is_empty w ↦ no_bytes c.word.result.0.now (sym c.is_empty.ensures ∙ w.if-not-is_empty.false)
+    ] in
+    let source = gap.after.same ∙ c.new-2.ensures.source in
+    let bytes = ap (λ (z : Source). z.bytes.now) source ∙ c.new.ensures.bytes in
+    let on = ap (λ (z : Source). z.start.line) source ∙ ap (λ (p : Place). p.line) c.new.ensures.start in
+    let from = ap (λ (z : Source). z.start.column) source ∙ ap (λ (p : Place). p.column) c.new.ensures.start in (
+      on_line here.source c.args.number c.args.line.now c.bad.result.place bytes on from c.bad.ensures.place,
+      c.bad.ensures.wrong,
+      speaks c.args.line.now (left_of here) c.word.result.0.now _ (sym (ap squeezed line) ∙ gap.after.text) word.is word.over gap.flush more other,
+      unknown c.args.line.now (left_of here) c.word.result.0.now _ (sym (ap words line) ∙ sym gap.apart) word.is word.whole word.over gap.flush more c.in-None.ensures,
+    )
