@@ -226,7 +226,7 @@ spoilt_lacking ls n f h e g over absent wrong line column =
 
 wrong_given : (line : List ℕ) (old new : HeadWord → Bool) (w : Wrong) → ((h : HeadWord) → new h ≡ old h) → LineWrong line old w → LineWrong line new w
 wrong_given line old new w same (speaks, inl e) = (speaks, inl e)
-wrong_given line old new w same (speaks, inr (h, b, t)) = (speaks, inr (h, b, λ k. t (sym (same h) ∙ k)))
+wrong_given line old new w same (speaks, inr (h, b, t)) = (speaks, inr (h, b, (λ k. t.0 (sym (same h) ∙ k), λ k. t.1 (sym (same h) ∙ k))))
 
 pub spoilt_line : (ls : List (List ℕ)) (n : ℕ) (f : Found) (line : List ℕ) (size : ℕ) (e : BadText) → Good (take n ls) f → n < length ls → line ≡ get_or ls n line
     → OnLine (n + 1) 1 size e.place → LineWrong line (has_line f) e.wrong → Spoilt ls e

@@ -160,4 +160,4 @@ from_start names n (Err e) c s text p same at bytes start h =
     let line : c.source.start.line ≡ p.line = ap (λ z. z.start.line) same ∙ ap (λ z. z.line) start in
     let column : c.source.start.column ≡ p.column = ap (λ z. z.start.column) same ∙ ap (λ z. z.column) start in
     let long : length c.source.bytes.now ≡ length text = ap (λ z. length z.bytes.now) same ∙ ap length bytes in
-    record { same_line = h.same_line ∙ line; from = omega (arith, h.from); to = omega (arith, h.to) }
+    record { same_line = h.place.same_line ∙ line; from = omega (arith, h.place.from); to = omega (arith, h.place.to) }

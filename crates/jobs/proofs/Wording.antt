@@ -9,7 +9,7 @@ use Rattle.std.specs.Prelude.{slice_index}
 use Rattle.jobs.proofs.Squeezed.{squeezed_cons, from_next}
 use Rattle.jobs.specs.Places.{After, OnLine, NextWord, Within, left_of, rest_of, words_of}
 use Rattle.jobs.specs.Signs.{is_space, ends_word, has_bytes, squeezed, words, WordOver, Flush, Apart}
-use Rattle.jobs.specs.Steps.{Begins, Operands, Speaks, Unknown, StepSaid, WordRead, step_text, word_of, word_text}
+use Rattle.jobs.specs.Steps.{Operands, Speaks, Unknown, StepSaid, WordRead, step_text, word_of, word_text}
 use Rattle.jobs.specs.declared.cursor.Cursor.{Cursor}
 use Rattle.jobs.specs.declared.cursor.Source.{Source}
 use Rattle.jobs.specs.declared.job.LineWord.{LineWord}

@@ -6,7 +6,7 @@ use Rattle.std.specs.Str.{bytes_eq, chars}
 use Rattle.std.specs.declared.alloc.Global.{Global}
 use Rattle.std.specs.declared.vec.Vec.{Vec}
 use Rattle.jobs.specs.Parsed.{Said, texts}
-use Rattle.jobs.specs.Places.{Counted}
+use Rattle.jobs.specs.Places.{Counted, OfPart}
 use Rattle.jobs.specs.Signs.{words}
 use Rattle.jobs.specs.Steps.{Begins, IsBlank, IsRow, Speaks, Unknown, head_text, step_text}
 use Rattle.jobs.specs.declared.job.Found.{Found}
@@ -73,11 +73,15 @@ abbrev pub Taken : List ℕ → Found → Found → Bool → Type 0
 Taken line old new false = (ls : List (List ℕ)) → Good ls old → Good (ls ++ (line ∷ [])) new
 Taken line old new true = (new ≡ old) × Over (line ∷ [])
 
+-- Why a line of the head is wrong: it was given already; or else its operand is wrong.
+abbrev pub HeadWrong : Bool → Wrong → Type 0
+HeadWrong had w = (had ≡ true → w ≡ TwiceGiven) × (had ≡ false → OfPart w)
+
 -- Why a line ends the job, which no empty line and no comment does: no line of a job begins as it does; or it is one of the head, and
--- wrong, as it is where it was given.
+-- wrong.
 abbrev pub LineWrong : List ℕ → (HeadWord → Bool) → Wrong → Type 0
 LineWrong line had w =
-    Speaks line × (((w ≡ UnknownWord) × Unknown line) ⊎ ((h : HeadWord) × Begins (head_text h) line × (had h ≡ true → w ≡ TwiceGiven)))
+    Speaks line × (((w ≡ UnknownWord) × Unknown line) ⊎ ((h : HeadWord) × Begins (head_text h) line × HeadWrong (had h) w))
 
 -- What was found, where all was.
 pub record Holds (f : Found) (n : ℕ) (h : Head) : Type 0 where

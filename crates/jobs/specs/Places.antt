@@ -6,6 +6,8 @@ use Rattle.jobs.specs.declared.cursor.Cursor.{Cursor}
 use Rattle.jobs.specs.declared.cursor.Source.{Source}
 use Rattle.jobs.specs.declared.place.BadText.{BadText}
 use Rattle.jobs.specs.declared.place.Place.{Place}
+use Rattle.jobs.specs.declared.place.Wrong.{Wrong}
+use Rattle.jobs.specs.declared.place.Wrong.TheVariants as wrong
 
 -- A place on a line, from a column to the end of so many bytes that start there.
 pub record OnLine (line column size : ℕ) (p : Place) : Type 0 where
@@ -16,8 +18,24 @@ pub record OnLine (line column size : ℕ) (p : Place) : Type 0 where
 abbrev pub Within : Source → Place → Type 0
 Within s p = OnLine s.start.line s.start.column (length s.bytes.now) p
 
-abbrev pub InText : Source → BadText → Type 0
-InText s e = Within s e.place
+-- A reason that is told of a part of a line, and not of the whole line.
+abbrev pub OfPart : Wrong → Type 0
+OfPart wrong.UnknownName = Unit {0}
+OfPart wrong.NoNumber = Unit {0}
+OfPart wrong.NoName = Unit {0}
+OfPart (wrong.MissingSign s) = Unit {0}
+OfPart wrong.GoesOn = Unit {0}
+OfPart wrong.TooDeep = Unit {0}
+OfPart wrong.NoMemory = Unit {0}
+OfPart wrong.UnknownWord = ⊥
+OfPart (wrong.MissingLine h) = ⊥
+OfPart wrong.TwiceGiven = ⊥
+OfPart wrong.LateHead = ⊥
+
+-- Something in the text is wrong.
+pub record InText (s : Source) (e : BadText) : Type 0 where
+  pub place : Within s e.place
+  pub reason : OfPart e.wrong
 
 -- What is left of the text.
 abbrev pub left_of : Cursor → List ℕ

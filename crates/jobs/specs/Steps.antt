@@ -1,7 +1,7 @@
 -- What a line of a job says.
 use Rattle.std.specs.Prelude.{◌≡◌, ℕ, List, [], ◌∷◌, ◌++◌, ◌⊎◌, codes, slice_index, Option, Some, None}
 use Rattle.book.specs.declared.entry.Entry.{Entry}
-use Rattle.jobs.specs.Places.{left_of, words_of, IsOn}
+use Rattle.jobs.specs.Places.{left_of, words_of, IsOn, OfPart}
 use Rattle.jobs.specs.Signs.{squeezed, words, WordOver, Apart, Numeral}
 use Rattle.jobs.specs.declared.job.LineWord.{LineWord}
 use Rattle.jobs.specs.declared.job.LineWord.TheVariants.{Head as HeadLine, Step as StepLine}
@@ -98,7 +98,7 @@ Unknown line = (w : LineWord) → Begins (word_text w) line → ⊥
 abbrev pub StepWrong : List ℕ → Wrong → Type 0
 StepWrong line w =
     Speaks line
-    × (((w ≡ UnknownWord) × Unknown line) ⊎ ((h : HeadWord) × Begins (head_text h) line × (w ≡ LateHead)) ⊎ ((s : StepWord) × Begins (step_text s) line))
+    × (((w ≡ UnknownWord) × Unknown line) ⊎ ((h : HeadWord) × Begins (head_text h) line × (w ≡ LateHead)) ⊎ ((s : StepWord) × Begins (step_text s) line × OfPart w))
 
 -- A line begins with a word.
 pub record WordRead (line : List ℕ) (number : ℕ) (w : WordLine) : Type 0 where

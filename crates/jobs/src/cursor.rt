@@ -109,7 +109,7 @@ impl<'a> Cursor<'a> {
     }
 
     pub(crate) fn bad(self, wrong: Wrong) -> BadText
-        ensures place { InText self.entry.source result }
+        ensures place { Within self.entry.source result.place }
         ensures wrong { result.wrong ≡ wrong }
     {
         BadText {
@@ -120,7 +120,7 @@ impl<'a> Cursor<'a> {
 
     // What is there, or what is wrong here.
     pub(crate) fn given<T: Drop>(self, found: Option<T>, wrong: Wrong) -> Result<T, BadText>
-        ensures { MatchResult result (λ x. found ≡ Some x) (λ e. InText self.entry.source e) }
+        ensures { MatchResult result (λ x. found ≡ Some x) (λ e. Within self.entry.source e.place × (e.wrong ≡ wrong)) }
     {
         match found {
             Some(x) => Ok(x),

@@ -6,7 +6,7 @@ ghost use Rattle.jobs.specs.Heads.{SpellsRoles, Whole, Spoilt};
 ghost use Rattle.jobs.specs.declared.job.LineWord.{LineWord as LineWordOf};
 ghost use Rattle.jobs.specs.declared.place.HeadWord.{HeadWord as HeadWordOf};
 ghost use Rattle.jobs.specs.declared.place.Wrong.TheVariants.{MissingLine, TwiceGiven, UnknownWord};
-ghost use Rattle.jobs.specs.Places.{OnLine, InText, left_of, rest_of, words_of};
+ghost use Rattle.jobs.specs.Places.{OnLine, Within, InText, left_of, rest_of, words_of};
 ghost use Rattle.jobs.specs.Signs.{squeezed, words, WordOver, Apart};
 ghost use Rattle.jobs.specs.Steps.{IsBlank, WordRead, Says, StepWrong, Speaks, Unknown, Operands, IsEntry, IsRow, word_text, word_of};
 
@@ -187,7 +187,7 @@ struct Found {
 }
 
 impl Found {
-    ghost use Rattle.jobs.specs.Heads.{Good, Holds, Taken, LineWrong, has_line};
+    ghost use Rattle.jobs.specs.Heads.{Good, Holds, Taken, HeadWrong, LineWrong, has_line};
     ghost use Rattle.jobs.specs.Steps.{head_text};
 
     fn nothing(heap: Global) -> Found
@@ -241,7 +241,7 @@ impl Found {
         requires text { words here.source.bytes.now ≡ words (head_text word ++ left_of after) }
         requires over { WordOver (left_of after) }
         requires words { Apart (left_of after) → words here.source.bytes.now ≡ head_text word ∷ words_of after }
-        ensures { MatchResult result (λ _. Taken here.entry.source.bytes.now self.old self.new false) (λ e. InText here.entry.source e × (has_line self.old word ≡ true → e.wrong ≡ TwiceGiven)) }
+        ensures { MatchResult result (λ _. Taken here.entry.source.bytes.now self.old self.new false) (λ e. Within here.entry.source e.place × HeadWrong (has_line self.old word) e.wrong) }
     {
         if self.has(word) {
             return Err(here.bad(Wrong::TwiceGiven));

@@ -1,4 +1,4 @@
-use Rattle.std.proofs.Common.{◌≡◌, ◌∷◌, ◌++◌, ◌<◌, ◌≤◌, length, get_or, ap, sym, ◌∙◌, drop, inl, subst}
+use Rattle.std.proofs.Common.{◌≡◌, ◌∷◌, ◌++◌, ◌<◌, length, get_or, ap, sym, ◌∙◌, drop, inl, subst}
 use Rattle.jobs.specs.Places.{left_of, rest_of, words_of}
 use Rattle.jobs.specs.Signs.{squeezed, words}
 use Rattle.jobs.specs.declared.cursor.Source.{Source}
