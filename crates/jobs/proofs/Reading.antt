@@ -1,5 +1,6 @@
 -- What is read part by part is what the whole spells.
-use Rattle.std.proofs.Common.{◌≡◌, ℕ, zero, suc, ◌+◌, ◌<◌, ◌≤◌, Box, Bool, true, String, length, drop, get_or, map, List, [], ◌∷◌, ◌++◌, Some, Ok, Err, Result, MatchResult, refl, ap, sym, subst, ◌∙◌, append_assoc, arith}
+use Rattle.std.proofs.Common.{◌≡◌, ℕ, zero, suc, ◌+◌, ◌<◌, ◌≤◌, Box, Bool, true, false, String, length, take, drop, get_or, map, List, [], ◌∷◌, ◌++◌, Some, Ok, Err, Result, MatchResult, refl, ap, sym, subst, ◌∙◌, append_assoc, add-one, inl, inr, arith}
+use Rattle.std.proofs.lemmas.List.{length-map, map_push, take_all}
 use Rattle.std.proofs.lemmas.Option.{slice_get-map, slice_get_read}
 use Rattle.std.proofs.lemmas.Slice.Eq.{bytes_eq-Decides}
 use Rattle.std.specs.Option.{option_map}
@@ -8,7 +9,7 @@ use Rattle.std.specs.Str.{bytes_eq}
 use Rattle.std.specs.declared.alloc.Global.{Global}
 use Rattle.jobs.specs.Places.{After, NumberRead, rest_of, InText, OnLine}
 use Rattle.jobs.specs.Signs.{squeezed}
-use Rattle.jobs.specs.Parsed.{Grown, Inside, Said, PileRead, InsideRead, NameRead, called, form_name, form_of}
+use Rattle.jobs.specs.Parsed.{Grown, Lacking, Placed, Inside, Said, PileRead, InsideRead, NameRead, called, form_name, form_of}
 use Rattle.jobs.specs.Refused.{height}
 use Rattle.jobs.specs.declared.cursor.Cursor.{Cursor}
 use Rattle.jobs.specs.declared.cursor.Source.{Source}
@@ -142,11 +143,49 @@ pile_read xs n m g word a b c d e f w p q is r s same t =
 
 -- ---- names in a list
 
+-- The text at a place of a list of strings.
+text_at : (v : List (String Global)) (i : ℕ) (s : String Global) (t : List ℕ) → i < length v → s ≡ get_or v i s → t ≡ string_bytes s
+    → slice_get (map string_bytes v) i ≡ Some t
+text_at v i s t low is text = slice_get-map string_bytes v i ∙ ap (option_map string_bytes) (slice_get_read v (length v) i s refl low is) ∙ ap Some (sym text)
+
+lacking_more : (xs : List (List ℕ)) (i : ℕ) (x name : List ℕ) → slice_get xs i ≡ Some x → (x ≡ name → ⊥) → Lacking name (take i xs) → Lacking name (take (suc i) xs)
+lacking_more [] i x name e other h = cc
+lacking_more (y ∷ ys) zero x name e other h = (λ k. other (let same : y ≡ x = cc in sym same ∙ k), tt)
+lacking_more (y ∷ ys) (suc i) x name e other h = (h.0, lacking_more ys i x name e other h.1)
+
+unequal : (t name : List ℕ) (r : Bool) → r ≡ bytes_eq t name → r ≡ false → t ≡ name → ⊥
+unequal t name r same fails e = let k : true ≡ false = sym ((bytes_eq-Decides t name).1 e) ∙ sym same ∙ fails in cc
+
+-- A name that is not the one at i either.
+pub lacking_next : (v : List (String Global)) (i : ℕ) (s : String Global) (t name : List ℕ) (r : Bool) → i < length v → s ≡ get_or v i s → t ≡ string_bytes s
+    → r ≡ bytes_eq t name → r ≡ false → Lacking name (take i (map string_bytes v)) → Lacking name (take (i + 1) (map string_bytes v))
+lacking_next v i s t name r low is text same fails h =
+    rw add-one (lacking_more (map string_bytes v) i t name (text_at v i s t low is text) (unequal t name r same fails) h)
+
 pub name_at : (v : List (String Global)) (i : ℕ) (s : String Global) (t name : List ℕ) (r : Bool) → i < length v → s ≡ get_or v i s → t ≡ string_bytes s
     → r ≡ bytes_eq t name → r ≡ true → slice_get (map string_bytes v) i ≡ Some name
 name_at v i s t name r low is text same holds =
     let equal : t ≡ name = (bytes_eq-Decides t name).0 (sym same ∙ holds) in
-    slice_get-map string_bytes v i ∙ ap (option_map string_bytes) (slice_get_read v (length v) i s refl low is) ∙ ap Some (sym text ∙ equal)
+    text_at v i s t low is text ∙ ap Some equal
+
+get_last : (xs : List (List ℕ)) (name : List ℕ) → slice_get (xs ++ (name ∷ [])) (length xs) ≡ Some name
+get_last [] name = refl
+get_last (x ∷ xs) name = get_last xs name
+
+pub placed_named : (old new : List (List ℕ)) (name : List ℕ) (i : ℕ) → Placed old new name i → slice_get new i ≡ Some name
+placed_named old new name i (inl (at, same)) = ap (λ z. slice_get z i) same ∙ at
+placed_named old new name i (inr (lacking, end, more)) = ap (λ z. slice_get z i) more ∙ ap (slice_get (old ++ (name ∷ []))) end ∙ get_last old name
+
+pub placed_new : (v w : List (String Global)) (s : String Global) (name : List ℕ) (i k : ℕ) → w ≡ v ++ (s ∷ []) → string_bytes s ≡ name → i ≡ length v
+    → length v ≤ k → Lacking name (take k (map string_bytes v)) → Placed (map string_bytes v) (map string_bytes w) name i
+placed_new v w s name i k pushed text end low h =
+    let long : length (map string_bytes v) ≡ length v = length-map v string_bytes in
+    let all : take k (map string_bytes v) ≡ map string_bytes v = take_all k (map string_bytes v) (omega (arith, long, low)) in
+    inr (
+      subst (λ z. Lacking name z) all h,
+      end ∙ sym long,
+      ap (map string_bytes) pushed ∙ map_push string_bytes v s ∙ ap (λ z. map string_bytes v ++ (z ∷ [])) text,
+    )
 
 -- ---- a text from its start
 

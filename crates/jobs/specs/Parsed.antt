@@ -1,5 +1,6 @@
 -- What text spells a pile.
-use Rattle.std.specs.Prelude.{◌≡◌, ℕ, ◌≤◌, List, [], ◌∷◌, ◌++◌, map, codes, Some, slice_get}
+use Rattle.std.specs.Prelude.{◌≡◌, ℕ, ◌≤◌, ◌⊎◌, List, [], ◌∷◌, ◌++◌, length, map, codes, Some, slice_get}
+use Rattle.std.specs.List.{AllByRecursion}
 use Rattle.std.specs.String.{string_bytes}
 use Rattle.std.specs.declared.alloc.Global.{Global}
 use Rattle.std.specs.declared.string.String.{String}
@@ -21,6 +22,14 @@ texts v = map string_bytes v.items
 pub record Grown (old new : List (List ℕ)) : Type 0 where
   pub more : List (List ℕ)
   pub is : new ≡ old ++ more
+
+-- No name of the list is this one.
+abbrev pub Lacking : List ℕ → List (List ℕ) → Type 0
+Lacking name names = AllByRecursion (λ s. s ≡ name → ⊥) names
+
+-- A name has this place in a list: it stood there, and the list stays as it was; or the list lacked it, and has it at its end now.
+abbrev pub Placed : List (List ℕ) → List (List ℕ) → List ℕ → ℕ → Type 0
+Placed old new name i = ((slice_get old i ≡ Some name) × (new ≡ old)) ⊎ (Lacking name old × (i ≡ length old) × (new ≡ old ++ (name ∷ [])))
 
 abbrev pub form_name : Form → List ℕ
 form_name form.Clear = codes "clear"

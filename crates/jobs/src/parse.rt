@@ -2,7 +2,7 @@
 ghost use Rattle.std.specs.Prelude.{◌≡◌, ◌+◌, length, drop, IfErr, IfOk, IfSome, MatchResult, slice_get, List, ℕ};
 ghost use Rattle.jobs.specs.declared.parse.Form.TheVariants.{Clear as FormClear, Plus as FormPlus, KCipher as FormKCipher, Chain as FormChain, Turned as FormTurned, Narrowed as FormNarrowed};
 ghost use Rattle.jobs.specs.Places.{OnLine, InText, rest_of};
-ghost use Rattle.jobs.specs.Parsed.{texts, Grown, form_name, Said, PileRead, InsideRead, NameRead};
+ghost use Rattle.jobs.specs.Parsed.{texts, Grown, Placed, form_name, Said, PileRead, InsideRead, NameRead};
 ghost use Rattle.jobs.specs.Signs.{squeezed};
 
 use crate::cursor::{Cursor, Source};
@@ -193,6 +193,7 @@ fn file<'a>(
 fn place_of(heap: Global, names: &mut Vec<String>, name: &str) -> Result<usize, AllocError>
     ensures grown { Grown (texts names.old) (texts names.new) }
     ensures named { IfOk result (λ i. slice_get (texts names.new) i ≡ Some name.now) }
+    ensures placed { IfOk result (λ i. Placed (texts names.old) (texts names.new) name.now i) }
 {
     for (place, known) in names.iter().enumerate() {
         if known.as_str() == name {
