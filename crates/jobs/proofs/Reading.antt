@@ -1,5 +1,5 @@
 -- What is read part by part is what the whole spells.
-use Rattle.std.proofs.Common.{◌≡◌, ℕ, zero, suc, ◌+◌, ◌<◌, ◌≤◌, Box, Bool, true, false, String, length, take, drop, get_or, map, List, [], ◌∷◌, ◌++◌, Some, Ok, Err, Result, MatchResult, refl, ap, sym, subst, ◌∙◌, append_assoc, add-one, inl, inr, arith}
+use Rattle.std.proofs.Common.{◌≡◌, ℕ, zero, suc, ◌+◌, ◌<◌, ◌≤◌, Box, Bool, true, false, String, length, take, drop, get_or, map, List, [], ◌∷◌, ◌++◌, Some, Ok, Err, Result, MatchResult, refl, ap, sym, subst, ◌∙◌, append_assoc, append-nil, add-one, inl, inr, arith}
 use Rattle.std.proofs.lemmas.List.{length-map, map_push, take_all}
 use Rattle.std.proofs.lemmas.Option.{slice_get-map, slice_get_read}
 use Rattle.std.proofs.lemmas.Slice.Eq.{bytes_eq-Decides}
@@ -9,7 +9,7 @@ use Rattle.std.specs.Str.{bytes_eq}
 use Rattle.std.specs.declared.alloc.Global.{Global}
 use Rattle.jobs.specs.Places.{After, NumberRead, rest_of, InText, OnLine}
 use Rattle.jobs.specs.Signs.{squeezed}
-use Rattle.jobs.specs.Parsed.{Grown, Lacking, Placed, Inside, Said, PileRead, InsideRead, NameRead, called, form_name, form_of}
+use Rattle.jobs.specs.Parsed.{EachOnce, Grown, Lacking, Placed, Inside, Said, PileRead, InsideRead, NameRead, called, form_name, form_of}
 use Rattle.jobs.specs.Refused.{height}
 use Rattle.jobs.specs.declared.cursor.Cursor.{Cursor}
 use Rattle.jobs.specs.declared.cursor.Source.{Source}
@@ -58,7 +58,11 @@ pub inside_grown : (xs ys : List (List ℕ)) (s : List ℕ) (w : Written) → Gr
 inside_grown xs ys s w g h = subst (λ z. Inside z s w) (sym g.is) (inside_more xs g.more s w h)
 
 pub grown_twice : (xs ys zs : List (List ℕ)) → Grown xs ys → Grown ys zs → Grown xs zs
-grown_twice xs ys zs g h = record { more = g.more ++ h.more; is = h.is ∙ ap (λ z. z ++ h.more) g.is ∙ append_assoc xs g.more h.more }
+grown_twice xs ys zs g h = record {
+  more = g.more ++ h.more;
+  is = h.is ∙ ap (λ z. z ++ h.more) g.is ∙ append_assoc xs g.more h.more;
+  once = λ k. h.once (g.once k);
+}
 
 -- ---- what stands in brackets
 
@@ -186,6 +190,25 @@ placed_new v w s name i k pushed text end low h =
       end ∙ sym long,
       ap (map string_bytes) pushed ∙ map_push string_bytes v s ∙ ap (λ z. map string_bytes v ++ (z ∷ [])) text,
     )
+
+lacking_last : (names : List (List ℕ)) (x name : List ℕ) → Lacking x names → (name ≡ x → ⊥) → Lacking x (names ++ (name ∷ []))
+lacking_last [] x name h other = (other, tt)
+lacking_last (y ∷ names) x name h other = (h.0, lacking_last names x name h.1 other)
+
+once_last : (names : List (List ℕ)) (name : List ℕ) → EachOnce names → Lacking name names → EachOnce (names ++ (name ∷ []))
+once_last [] name h lacking = (tt, tt)
+once_last (x ∷ names) name h lacking = (lacking_last names x name h.0 (λ e. lacking.0 (sym e)), once_last names name h.1 lacking.1)
+
+grown_same : (old new : List (List ℕ)) → new ≡ old → Grown old new
+grown_same old new e = record { more = []; is = e ∙ sym (append-nil old); once = λ k. subst EachOnce (sym e) k }
+
+pub placed_grown : (old new : List (List ℕ)) (name : List ℕ) (i : ℕ) → Placed old new name i → Grown old new
+placed_grown old new name i (inl (at, same)) = grown_same old new same
+placed_grown old new name i (inr (lacking, end, more)) = record {
+  more = name ∷ [];
+  is = more;
+  once = λ k. subst EachOnce (sym more) (once_last old name k lacking);
+}
 
 -- ---- a text from its start
 

@@ -18,14 +18,20 @@ use Rattle.jobs.specs.declared.written.Written.TheVariants.{Clear, Plus, Cipher,
 abbrev pub texts : Vec (String Global) Global → List (List ℕ)
 texts v = map string_bytes v.items
 
--- A list that may have more at its end.
-pub record Grown (old new : List (List ℕ)) : Type 0 where
-  pub more : List (List ℕ)
-  pub is : new ≡ old ++ more
-
 -- No name of the list is this one.
 abbrev pub Lacking : List ℕ → List (List ℕ) → Type 0
 Lacking name names = AllByRecursion (λ s. s ≡ name → ⊥) names
+
+-- No name stands in the list twice.
+abbrev pub EachOnce : List (List ℕ) → Type 0
+EachOnce [] = Unit {0}
+EachOnce (name ∷ names) = Lacking name names × EachOnce names
+
+-- A list that may have more at its end, and no name twice if it had none twice.
+pub record Grown (old new : List (List ℕ)) : Type 0 where
+  pub more : List (List ℕ)
+  pub is : new ≡ old ++ more
+  pub once : EachOnce old → EachOnce new
 
 -- A name has this place in a list: it stood there, and the list stays as it was; or the list lacked it, and has it at its end now.
 abbrev pub Placed : List (List ℕ) → List (List ℕ) → List ℕ → ℕ → Type 0

@@ -1,5 +1,5 @@
-use Rattle.std.proofs.Common.{◌≡◌, ◌<◌, ◌≤◌, ap, sym, ◌∙◌, refl, inl, get_or, length, subst, arith}
-use Rattle.jobs.proofs.Reading.{name_at, lacking_next, placed_new, placed_named}
+use Rattle.std.proofs.Common.{◌≡◌, ◌<◌, ap, ◌∙◌, refl, inl, get_or, length, subst, arith}
+use Rattle.jobs.proofs.Reading.{name_at, lacking_next, placed_new, placed_named, placed_grown}
 use Rattle.jobs.proofs.parse.place_of.Goals as goal
 
 pub returns-then-eq-clause-named : goal.returns-then-eq-clause-named
@@ -37,3 +37,6 @@ returns-clause-placed c =
 
 pub returns-clause-named : goal.returns-clause-named
 returns-clause-named c = placed_named _ _ _ _ (returns-clause-placed c)
+
+pub returns-clause-grown : goal.returns-clause-grown
+returns-clause-grown c = placed_grown _ _ _ _ (returns-clause-placed c)
