@@ -2,7 +2,7 @@
 #![tactic(auto)]
 
 #[cfg(test)]
-mod bench;
+mod shared;
 #[cfg(test)]
 mod lists;
 #[cfg(test)]

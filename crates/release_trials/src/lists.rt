@@ -1,5 +1,5 @@
 // Lists of calls.
-use crate::bench::*;
+use crate::shared::*;
 use book::call::{Answer, Call};
 use book::refusal::Refusal;
 use book::row::Row;

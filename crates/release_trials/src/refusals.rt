@@ -1,5 +1,5 @@
 // Every refusal at its edge.
-use crate::bench::*;
+use crate::shared::*;
 use book::refusal::Refusal;
 use book::row::Row;
 use release::states::{Open, Release};

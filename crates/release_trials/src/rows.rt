@@ -1,5 +1,5 @@
 // What the calls do to rows and to row memory.
-use crate::bench::*;
+use crate::shared::*;
 use book::refusal::Refusal;
 use book::row::Row;
 use std::test::Fail;

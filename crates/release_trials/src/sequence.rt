@@ -1,5 +1,5 @@
 // A call that could be refused for two reasons is refused for the earlier one.
-use crate::bench::*;
+use crate::shared::*;
 use book::refusal::Refusal;
 use std::test::Fail;
 

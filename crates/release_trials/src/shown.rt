@@ -1,6 +1,6 @@
 // What is shown of calls, answers and refusals. The contract of a `Display` speaks of what is written where it does not
 // give up; that it writes at all is seen here.
-use crate::bench::*;
+use crate::shared::*;
 use book::call::{Answer, Call};
 use book::refusal::Refusal;
 use book::row::Row;
