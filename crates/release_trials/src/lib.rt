@@ -2,8 +2,6 @@
 #![tactic(auto)]
 
 #[cfg(test)]
-mod shared;
-#[cfg(test)]
 mod lists;
 #[cfg(test)]
 mod refusals;
@@ -11,5 +9,7 @@ mod refusals;
 mod rows;
 #[cfg(test)]
 mod sequence;
+#[cfg(test)]
+mod shared;
 #[cfg(test)]
 mod shown;
