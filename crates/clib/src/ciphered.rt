@@ -1,5 +1,5 @@
 // Many numbers through the cipher of a draft and a key.
-ghost use Rattle.std.specs.Prelude.{◌≡◌, MatchResult, map};
+ghost use Rattle.std.specs.Prelude.{◌≡◌, MatchResult};
 ghost use Rattle.clib.specs.Calls.{AllCoded, AllBack, Unwritten};
 ghost use Rattle.clib.specs.Many.{AllThrough, FirstAboveOf};
 

@@ -15,10 +15,10 @@ use Rattle.std.specs.declared.vec.Vec.{Vec}
 use Rattle.jobs.proofs.Reading.{inside_grown}
 use Rattle.jobs.proofs.Squeezed.{squeezed_nil, squeezed_cons}
 use Rattle.jobs.proofs.Wording.{words_are, words_space, words_letter, no_words, apart_letter}
-use Rattle.jobs.specs.Heads.{behind, given, some_of, is_given, SpellsPile, SpellsRoles, Once, OfHead, Good, Holds, Over, Whole, Lacks, FirstWrong, LineWrong, Spoilt, Taken, has_line}
+use Rattle.jobs.specs.Heads.{behind, given, is_given, SpellsPile, SpellsRoles, Once, OfHead, RightSoFar, AllFound, Over, Whole, Lacks, FirstWrong, LineWrong, Spoilt, Taken, has_line}
 use Rattle.jobs.specs.Parsed.{Grown, Said, Spelt, texts}
 use Rattle.jobs.specs.Places.{OnLine}
-use Rattle.jobs.specs.Signs.{is_space, has_bytes, squeezed, words, WordOver, Apart}
+use Rattle.jobs.specs.Signs.{is_space, not_empty, squeezed, words, WordOver, Apart}
 use Rattle.jobs.specs.Steps.{Begins, IsBlank, IsRow, head_text}
 use Rattle.jobs.specs.declared.job.Found.{Found}
 use Rattle.jobs.specs.declared.job.Head.{Head}
@@ -32,7 +32,7 @@ use Rattle.jobs.specs.declared.written.Written.TheVariants.{Clear, Plus, Cipher,
 
 -- ---- words, put together
 
-concat_kept : (xs : List (List ℕ)) → concat (filter has_bytes xs) ≡ concat xs
+concat_kept : (xs : List (List ℕ)) → concat (filter not_empty xs) ≡ concat xs
 concat_kept [] = refl
 concat_kept ([] ∷ xs) = concat_kept xs
 concat_kept ((b ∷ x) ∷ xs) = ap (λ z. (b ∷ x) ++ z) (concat_kept xs)
@@ -125,7 +125,7 @@ all_line : (ls : List (List ℕ)) (line : List ℕ) → AllByRecursion OfHead ls
 all_line [] line h k = (k, tt)
 all_line (l ∷ ls) line h k = (h.0, all_line ls line h.1 k)
 
-pub good_blank : (ls : List (List ℕ)) (line : List ℕ) (f : Found) → IsBlank line → Good ls f → Good (ls ++ (line ∷ [])) f
+pub good_blank : (ls : List (List ℕ)) (line : List ℕ) (f : Found) → IsBlank line → RightSoFar ls f → RightSoFar (ls ++ (line ∷ [])) f
 good_blank ls line f blank g = record {
   yarn = once_kept (SpellsPile (texts f.files)) Yarn ls line f.yarn (blank_none Yarn line blank) g.yarn;
   hands = once_kept (SpellsPile (texts f.files)) Hands ls line f.hands (blank_none Hands line blank) g.hands;
@@ -134,9 +134,9 @@ good_blank ls line f blank g = record {
   only = all_line ls line g.only (inl blank);
 }
 
-pub good_yarn : (ls : List (List ℕ)) (line : List ℕ) (f n : Found) (ws : List (List ℕ)) (w : Written) → Good ls f → is_some f.yarn ≡ false
+pub good_yarn : (ls : List (List ℕ)) (line : List ℕ) (f n : Found) (ws : List (List ℕ)) (w : Written) → RightSoFar ls f → is_some f.yarn ≡ false
     → words line ≡ head_text Yarn ∷ ws → Begins (head_text Yarn) line → Grown (texts f.files) (texts n.files) → SpellsPile (texts n.files) ws w
-    → n.yarn ≡ Some w → n.hands ≡ f.hands → n.roles ≡ f.roles → n.records ≡ f.records → Good (ls ++ (line ∷ [])) n
+    → n.yarn ≡ Some w → n.hands ≡ f.hands → n.roles ≡ f.roles → n.records ≡ f.records → RightSoFar (ls ++ (line ∷ [])) n
 good_yarn ls line f n ws w g absent said begins more s yarn hands roles records = record {
   yarn = rw yarn (once_new (SpellsPile (texts n.files)) Yarn ls line ws f.yarn w (once_grown _ _ _ f.yarn more g.yarn) absent said s);
   hands = rw hands (once_kept (SpellsPile (texts n.files)) Hands ls line f.hands (ap (behind (head_text Hands)) said) (once_grown _ _ _ f.hands more g.hands));
@@ -145,9 +145,9 @@ good_yarn ls line f n ws w g absent said begins more s yarn hands roles records 
   only = all_line ls line g.only (inr (Yarn, begins));
 }
 
-pub good_hands : (ls : List (List ℕ)) (line : List ℕ) (f n : Found) (ws : List (List ℕ)) (w : Written) → Good ls f → is_some f.hands ≡ false
+pub good_hands : (ls : List (List ℕ)) (line : List ℕ) (f n : Found) (ws : List (List ℕ)) (w : Written) → RightSoFar ls f → is_some f.hands ≡ false
     → words line ≡ head_text Hands ∷ ws → Begins (head_text Hands) line → Grown (texts f.files) (texts n.files) → SpellsPile (texts n.files) ws w
-    → n.yarn ≡ f.yarn → n.hands ≡ Some w → n.roles ≡ f.roles → n.records ≡ f.records → Good (ls ++ (line ∷ [])) n
+    → n.yarn ≡ f.yarn → n.hands ≡ Some w → n.roles ≡ f.roles → n.records ≡ f.records → RightSoFar (ls ++ (line ∷ [])) n
 good_hands ls line f n ws w g absent said begins more s yarn hands roles records = record {
   yarn = rw yarn (once_kept (SpellsPile (texts n.files)) Yarn ls line f.yarn (ap (behind (head_text Yarn)) said) (once_grown _ _ _ f.yarn more g.yarn));
   hands = rw hands (once_new (SpellsPile (texts n.files)) Hands ls line ws f.hands w (once_grown _ _ _ f.hands more g.hands) absent said s);
@@ -156,9 +156,9 @@ good_hands ls line f n ws w g absent said begins more s yarn hands roles records
   only = all_line ls line g.only (inr (Hands, begins));
 }
 
-pub good_roles : (ls : List (List ℕ)) (line : List ℕ) (f n : Found) (ws : List (List ℕ)) (v : Vec ℕ Global) → Good ls f → is_some f.roles ≡ false
+pub good_roles : (ls : List (List ℕ)) (line : List ℕ) (f n : Found) (ws : List (List ℕ)) (v : Vec ℕ Global) → RightSoFar ls f → is_some f.roles ≡ false
     → words line ≡ head_text Roles ∷ ws → Begins (head_text Roles) line → SpellsRoles ws v
-    → n.files ≡ f.files → n.yarn ≡ f.yarn → n.hands ≡ f.hands → n.roles ≡ Some v → n.records ≡ f.records → Good (ls ++ (line ∷ [])) n
+    → n.files ≡ f.files → n.yarn ≡ f.yarn → n.hands ≡ f.hands → n.roles ≡ Some v → n.records ≡ f.records → RightSoFar (ls ++ (line ∷ [])) n
 good_roles ls line f n ws v g absent said begins s files yarn hands roles records = record {
   yarn = rw (files, yarn) (once_kept (SpellsPile (texts f.files)) Yarn ls line f.yarn (ap (behind (head_text Yarn)) said) g.yarn);
   hands = rw (files, hands) (once_kept (SpellsPile (texts f.files)) Hands ls line f.hands (ap (behind (head_text Hands)) said) g.hands);
@@ -167,9 +167,9 @@ good_roles ls line f n ws v g absent said begins s files yarn hands roles record
   only = all_line ls line g.only (inr (Roles, begins));
 }
 
-pub good_records : (ls : List (List ℕ)) (line : List ℕ) (f n : Found) (ws : List (List ℕ)) (k : ℕ) → Good ls f → is_some f.records ≡ false
+pub good_records : (ls : List (List ℕ)) (line : List ℕ) (f n : Found) (ws : List (List ℕ)) (k : ℕ) → RightSoFar ls f → is_some f.records ≡ false
     → words line ≡ head_text Records ∷ ws → Begins (head_text Records) line → IsRow ws k
-    → n.files ≡ f.files → n.yarn ≡ f.yarn → n.hands ≡ f.hands → n.roles ≡ f.roles → n.records ≡ Some k → Good (ls ++ (line ∷ [])) n
+    → n.files ≡ f.files → n.yarn ≡ f.yarn → n.hands ≡ f.hands → n.roles ≡ f.roles → n.records ≡ Some k → RightSoFar (ls ++ (line ∷ [])) n
 good_records ls line f n ws k g absent said begins s files yarn hands roles records = record {
   yarn = rw (files, yarn) (once_kept (SpellsPile (texts f.files)) Yarn ls line f.yarn (ap (behind (head_text Yarn)) said) g.yarn);
   hands = rw (files, hands) (once_kept (SpellsPile (texts f.files)) Hands ls line f.hands (ap (behind (head_text Hands)) said) g.hands);
@@ -180,7 +180,7 @@ good_records ls line f n ws k g absent said begins s files yarn hands roles reco
 
 -- ---- a head that is whole
 
-pub whole_from : (ls : List (List ℕ)) (n : ℕ) (f : Found) (h : Head) → Good (take n ls) f → Holds f n h → n ≤ length ls → Over (drop n ls) → Whole ls h
+pub whole_from : (ls : List (List ℕ)) (n : ℕ) (f : Found) (h : Head) → RightSoFar (take n ls) f → AllFound f n h → n ≤ length ls → Over (drop n ls) → Whole ls h
 whole_from ls n f h g is low over =
     let same : n ≡ h.lines = sym is.lines in
     let files : texts f.files ≡ texts h.files = ap texts (sym is.files) in
@@ -198,21 +198,21 @@ whole_from ls n f h g is low over =
 
 -- ---- a head that is none
 
-once_had : {T : Type 0} (says : List (List ℕ) → T → Type 0) (g : List (List (List ℕ))) (o : Option T) → Once says g o → some_of g ≡ is_some o
-once_had says g None p = ap some_of p
-once_had says g (Some x) p = ap some_of p.1
+once_had : {T : Type 0} (says : List (List ℕ) → T → Type 0) (g : List (List (List ℕ))) (o : Option T) → Once says g o → not_empty g ≡ is_some o
+once_had says g None p = ap not_empty p
+once_had says g (Some x) p = ap not_empty p.1
 
-had : (ls : List (List ℕ)) (f : Found) → Good ls f → (h : HeadWord) → is_given ls h ≡ has_line f h
+had : (ls : List (List ℕ)) (f : Found) → RightSoFar ls f → (h : HeadWord) → is_given ls h ≡ has_line f h
 had ls f g Yarn = once_had (SpellsPile (texts f.files)) (given Yarn ls) f.yarn g.yarn
 had ls f g Hands = once_had (SpellsPile (texts f.files)) (given Hands ls) f.hands g.hands
 had ls f g Roles = once_had SpellsRoles (given Roles ls) f.roles g.roles
 had ls f g Records = once_had IsRow (given Records ls) f.records g.records
 
-none_of : (g : List (List (List ℕ))) → some_of g ≡ false → g ≡ []
+none_of : (g : List (List (List ℕ))) → not_empty g ≡ false → g ≡ []
 none_of [] e = refl
 none_of (ws ∷ more) e = cc
 
-pub spoilt_lacking : (ls : List (List ℕ)) (n : ℕ) (f : Found) (h : HeadWord) (e : BadText) → Good (take n ls) f → Over (drop n ls) → has_line f h ≡ false
+pub spoilt_lacking : (ls : List (List ℕ)) (n : ℕ) (f : Found) (h : HeadWord) (e : BadText) → RightSoFar (take n ls) f → Over (drop n ls) → has_line f h ≡ false
     → e.wrong ≡ MissingLine h → e.place.line ≡ n + 1 → e.place.column ≡ 1 → Spoilt ls e
 spoilt_lacking ls n f h e g over absent wrong line column =
     let same : n ≡ e.place.line - 1 = omega (arith, line) in
@@ -220,7 +220,7 @@ spoilt_lacking ls n f h e g over absent wrong line column =
     record { word = h; is = wrong; none = none_of (given h (take n ls)) (had (take n ls) f g h ∙ absent); over = over } in
     record {
       counted = record { line = omega (arith, line); column = omega (arith, column) };
-      before = (f, subst (λ k. Good (take k ls) f) same g);
+      before = (f, subst (λ k. RightSoFar (take k ls) f) same g);
       why = inl (subst (λ k. Lacks (take k ls) (drop k ls) e.wrong) same lacks);
     }
 
@@ -228,7 +228,7 @@ wrong_given : (line : List ℕ) (old new : HeadWord → Bool) (w : Wrong) → ((
 wrong_given line old new w same (speaks, inl e) = (speaks, inl e)
 wrong_given line old new w same (speaks, inr (h, b, t)) = (speaks, inr (h, b, (λ k. t.0 (sym (same h) ∙ k), λ k. t.1 (sym (same h) ∙ k))))
 
-pub spoilt_line : (ls : List (List ℕ)) (n : ℕ) (f : Found) (line : List ℕ) (size : ℕ) (e : BadText) → Good (take n ls) f → n < length ls → line ≡ get_or ls n line
+pub spoilt_line : (ls : List (List ℕ)) (n : ℕ) (f : Found) (line : List ℕ) (size : ℕ) (e : BadText) → RightSoFar (take n ls) f → n < length ls → line ≡ get_or ls n line
     → OnLine (n + 1) 1 size e.place → LineWrong line (has_line f) e.wrong → Spoilt ls e
 spoilt_line ls n f line size e g low is place wrong =
     let same : n ≡ e.place.line - 1 = omega (arith, place.same_line) in
@@ -237,41 +237,41 @@ spoilt_line ls n f line size e g low is place wrong =
     let there : FirstWrong (take n ls) (drop n ls) e.wrong = subst (λ z. FirstWrong (take n ls) z e.wrong) next here in
     record {
       counted = record { line = omega (arith, place.same_line); column = place.from };
-      before = (f, subst (λ k. Good (take k ls) f) same g);
+      before = (f, subst (λ k. RightSoFar (take k ls) f) same g);
       why = inr (subst (λ k. FirstWrong (take k ls) (drop k ls) e.wrong) same there);
     }
 
-pub line_spoilt : (all seen : List (List ℕ)) (n k : ℕ) (f : Found) (line : List ℕ) (size : ℕ) (e : BadText) → Good seen f → n ≡ k → seen ≡ take k all
+pub line_spoilt : (all seen : List (List ℕ)) (n k : ℕ) (f : Found) (line : List ℕ) (size : ℕ) (e : BadText) → RightSoFar seen f → n ≡ k → seen ≡ take k all
     → (k < length all) × (line ≡ get_or all k line) → OnLine (n + 1) 1 size e.place × LineWrong line (has_line f) e.wrong → Spoilt all e
 line_spoilt all seen n k f line size e g count is turn bad =
-    spoilt_line all k f line size e (subst (λ z. Good z f) is g) turn.0 turn.1 (subst (λ m. OnLine (m + 1) 1 size e.place) count bad.0) bad.1
+    spoilt_line all k f line size e (subst (λ z. RightSoFar z f) is g) turn.0 turn.1 (subst (λ m. OnLine (m + 1) 1 size e.place) count bad.0) bad.1
 
 -- What is answered at the end of a head, or where a line is missing from it.
 abbrev pub HeadFrom : Found → ℕ → Result Head BadText → Type 0
-HeadFrom f n r = MatchResult r (λ h. Holds f n h)
+HeadFrom f n r = MatchResult r (λ h. AllFound f n h)
     (λ e. (w : HeadWord) × (has_line f w ≡ false) × (e.wrong ≡ MissingLine w) × (e.place.line ≡ n + 1) × (e.place.column ≡ 1))
 
 abbrev pub HeadOf : List (List ℕ) → Result Head BadText → Type 0
 HeadOf ls r = MatchResult r (λ h. Whole ls h) (λ e. Spoilt ls e)
 
-head_at : (ls : List (List ℕ)) (n : ℕ) (f : Found) (r : Result Head BadText) → Good (take n ls) f → n ≤ length ls → Over (drop n ls) → HeadFrom f n r → HeadOf ls r
+head_at : (ls : List (List ℕ)) (n : ℕ) (f : Found) (r : Result Head BadText) → RightSoFar (take n ls) f → n ≤ length ls → Over (drop n ls) → HeadFrom f n r → HeadOf ls r
 head_at ls n f (Ok h) g low over is = whole_from ls n f h g is low over
 head_at ls n f (Err e) g low over (w, lacks, wrong, line, column) = spoilt_lacking ls n f w e g over lacks wrong line column
 
-pub head_step : (all seen : List (List ℕ)) (n k : ℕ) (f g : Found) (line : List ℕ) (r : Result Head BadText) → Good seen f → n ≡ k → seen ≡ take k all
+pub head_step : (all seen : List (List ℕ)) (n k : ℕ) (f g : Found) (line : List ℕ) (r : Result Head BadText) → RightSoFar seen f → n ≡ k → seen ≡ take k all
     → (k < length all) × (line ≡ get_or all k line) → Taken line f g true → HeadFrom g n r → HeadOf all r
 head_step all seen n k f g line r good count is turn taken h =
     let next : line ∷ drop (suc k) all ≡ drop k all = ap (λ z. z ∷ drop (suc k) all) turn.1 ∙ sym (drop-cons all k line turn.0) in
     let over : Over (line ∷ drop (suc k) all) = taken.1 in
-    let before : Good (take k all) g = subst (λ z. Good (take k all) z) (sym taken.0) (subst (λ z. Good z f) is good) in
+    let before : RightSoFar (take k all) g = subst (λ z. RightSoFar (take k all) z) (sym taken.0) (subst (λ z. RightSoFar z f) is good) in
     let low : k ≤ length all = omega (arith, turn.0) in
     head_at all k g r before low (subst Over next over) (subst (λ m. HeadFrom g m r) count h)
 
-pub head_end : (all seen : List (List ℕ)) (n k : ℕ) (f : Found) (r : Result Head BadText) → Good seen f → n ≡ k → (seen ≡ all) × (k ≡ length all) → HeadFrom f n r
+pub head_end : (all seen : List (List ℕ)) (n k : ℕ) (f : Found) (r : Result Head BadText) → RightSoFar seen f → n ≡ k → (seen ≡ all) × (k ≡ length all) → HeadFrom f n r
     → HeadOf all r
 head_end all seen n k f r good count end h =
     let low : length all ≤ k = omega (arith, end.1) in
-    let before : Good (take k all) f = subst (λ z. Good z f) (end.0 ∙ sym (take_all k all low)) good in
+    let before : RightSoFar (take k all) f = subst (λ z. RightSoFar z f) (end.0 ∙ sym (take_all k all low)) good in
     head_at all k f r before (omega (arith, end.1)) (subst Over (sym (drop_all k all low)) tt) (subst (λ m. HeadFrom f m r) count h)
 
 -- ---- how many lines a text has

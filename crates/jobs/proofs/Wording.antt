@@ -7,8 +7,8 @@ use Rattle.std.proofs.lemmas.List.Splits.{slice_split-cons_yes, slice_split-cons
 use Rattle.std.specs.List.{AllByRecursion, filter, slice_split, onto_first}
 use Rattle.std.specs.Prelude.{slice_index}
 use Rattle.jobs.proofs.Squeezed.{squeezed_cons, from_next}
-use Rattle.jobs.specs.Places.{After, OnLine, NextWord, Within, left_of, rest_of, words_of}
-use Rattle.jobs.specs.Signs.{is_space, ends_word, has_bytes, squeezed, words, WordOver, Flush, Apart}
+use Rattle.jobs.specs.Places.{After, OnLine, NextWord, Within, left_of, rest_of, words_left}
+use Rattle.jobs.specs.Signs.{is_space, ends_word, not_empty, squeezed, words, WordOver, Flush, Apart}
 use Rattle.jobs.specs.Steps.{Operands, Speaks, Unknown, StepSaid, WordRead, step_text, word_of, word_text}
 use Rattle.jobs.specs.declared.cursor.Cursor.{Cursor}
 use Rattle.jobs.specs.declared.cursor.Source.{Source}
@@ -24,12 +24,12 @@ use Rattle.jobs.specs.declared.place.Place.{Place}
 abbrev parts : List ℕ → List (List ℕ)
 parts s = slice_split is_space s
 
-pub words_are : (s : List ℕ) → words s ≡ filter has_bytes (parts s)
+pub words_are : (s : List ℕ) → words s ≡ filter not_empty (parts s)
 unfolding words
 words_are s = refl
 
 pub words_space : (b : ℕ) (s : List ℕ) → is_space b ≡ true → words (b ∷ s) ≡ words s
-words_space b s e = words_are (b ∷ s) ∙ ap (filter has_bytes) (slice_split-cons_yes is_space b s e) ∙ sym (words_are s)
+words_space b s e = words_are (b ∷ s) ∙ ap (filter not_empty) (slice_split-cons_yes is_space b s e) ∙ sym (words_are s)
 
 -- a space at i
 pub past_gap : (bs : List ℕ) (i : ℕ) → i < length bs → is_space (get_or bs i 0) ≡ true → words (drop (i + 1) bs) ≡ words (drop i bs)
@@ -49,16 +49,16 @@ split_next (b ∷ w) y ys h e = slice_split-cons_no is_space b (w ++ (y ∷ ys))
 words_nil : words [] ≡ []
 words_nil = words_are []
 
-kept : (w : List ℕ) (ws : List (List ℕ)) → 0 < length w → filter has_bytes (w ∷ ws) ≡ w ∷ filter has_bytes ws
+kept : (w : List ℕ) (ws : List (List ℕ)) → 0 < length w → filter not_empty (w ∷ ws) ≡ w ∷ filter not_empty ws
 kept [] ws h = let k : ⊥ = omega (arith, h) in elim k [ ]
 kept (b ∷ w) ws h = refl
 
 -- a word and what stands apart from it
 pub words_word : (w r : List ℕ) → AllByRecursion (λ b. is_space b ≡ false) w → 0 < length w → Apart r → words (w ++ r) ≡ w ∷ words r
 words_word w [] h some apart =
-    ap words (append-nil w) ∙ words_are w ∙ ap (filter has_bytes) (split_last w h) ∙ kept w [] some ∙ ap (λ z. w ∷ z) (sym words_nil)
+    ap words (append-nil w) ∙ words_are w ∙ ap (filter not_empty) (split_last w h) ∙ kept w [] some ∙ ap (λ z. w ∷ z) (sym words_nil)
 words_word w (y ∷ ys) h some apart =
-    words_are (w ++ (y ∷ ys)) ∙ ap (filter has_bytes) (split_next w y ys h apart) ∙ kept w (parts ys) some
+    words_are (w ++ (y ∷ ys)) ∙ ap (filter not_empty) (split_next w y ys h apart) ∙ kept w (parts ys) some
     ∙ ap (λ z. w ∷ z) (sym (words_are ys) ∙ sym (words_space y ys apart))
 
 or_no : (a b : Bool) → (a || b) ≡ false → a ≡ false
@@ -91,7 +91,7 @@ over_at bs i low e = subst WordOver (sym (from_next bs i low)) e
 pub over_end : (bs : List ℕ) (i : ℕ) → i ≡ length bs → WordOver (drop i bs)
 over_end bs i e = subst WordOver (sym (ap (λ k. drop k bs) e ∙ drop-length bs)) tt
 
-pub next_word : (c h d : Cursor) (w : List ℕ) → After c h [] → words_of h ≡ words_of c → After h d w → left_of h ≡ w ++ left_of d
+pub next_word : (c h d : Cursor) (w : List ℕ) → After c h [] → words_left h ≡ words_left c → After h d w → left_of h ≡ w ++ left_of d
     → AllByRecursion (λ b. ends_word b ≡ false) w → WordOver (left_of d) → 0 < length w → NextWord c d w
 next_word c h d w gap apart q is whole over some = record {
   after = record { same = q.same ∙ gap.same; text = gap.text ∙ q.text };
@@ -141,17 +141,17 @@ apart_before s (b ∷ w) r over e h some = apart_letter s b (w ++ r) over e h.0
 apart_next : (c d : Cursor) (w : List ℕ) → NextWord c d w → WordOver (left_of c) → Apart (left_of c)
 apart_next c d w h over = apart_before (left_of c) w (rest_of d) over h.after.text h.whole h.some
 
-taken : (c d : Cursor) (w : List ℕ) → NextWord c d w → Apart (left_of d) → words_of c ≡ w ∷ words_of d
+taken : (c d : Cursor) (w : List ℕ) → NextWord c d w → Apart (left_of d) → words_left c ≡ w ∷ words_left d
 taken c d w h apart = h.same_words ∙ words_word w (left_of d) (no_spaces w h.whole) h.some apart
 
-pub one_word : (c d : Cursor) (w : List ℕ) → WordOver (left_of c) → NextWord c d w → rest_of d ≡ [] → Apart (left_of c) × (words_of c ≡ w ∷ [])
+pub one_word : (c d : Cursor) (w : List ℕ) → WordOver (left_of c) → NextWord c d w → rest_of d ≡ [] → Apart (left_of c) × (words_left c ≡ w ∷ [])
 one_word c d w over h end = (
   apart_next c d w h over,
   taken c d w h (apart_end (left_of d) end) ∙ ap (λ z. w ∷ z) (no_words (left_of d) end),
 )
 
 pub two_words : (c d e : Cursor) (v w : List ℕ) → WordOver (left_of c) → NextWord c d v → NextWord d e w → rest_of e ≡ []
-    → Apart (left_of c) × (words_of c ≡ v ∷ w ∷ [])
+    → Apart (left_of c) × (words_left c ≡ v ∷ w ∷ [])
 two_words c d e v w over h k end =
     let second = one_word d e w h.over k end in
     (apart_next c d v h over, taken c d v h second.0 ∙ ap (λ z. v ∷ z) second.1)
@@ -169,29 +169,29 @@ word_text_some (StepLine word.Tally) = omega arith
 word_text_some (StepLine word.Draft) = omega arith
 word_text_some (StepLine word.Sheet) = omega arith
 
-pub first_word : (line : List ℕ) (start here after : Cursor) (w : List ℕ) → words_of start ≡ words line → words_of here ≡ words_of start
-    → left_of here ≡ w ++ left_of after → AllByRecursion (λ b. ends_word b ≡ false) w → 0 < length w → Apart (left_of after) → words line ≡ w ∷ words_of after
+pub first_word : (line : List ℕ) (start here after : Cursor) (w : List ℕ) → words_left start ≡ words line → words_left here ≡ words_left start
+    → left_of here ≡ w ++ left_of after → AllByRecursion (λ b. ends_word b ≡ false) w → 0 < length w → Apart (left_of after) → words line ≡ w ∷ words_left after
 first_word line start here after w whole apart is h some over =
     sym whole ∙ sym apart ∙ ap words is ∙ words_word w (left_of after) (no_spaces w h) some over
 
 pub step_said : (line : List ℕ) (number : ℕ) (w : WordLine) (s : StepWord) (t : Step) → WordRead line number w → w.word ≡ StepLine s → word_of t ≡ s
-    → Apart (left_of w.after) → Operands (words_of w.after) t → StepSaid line t
+    → Apart (left_of w.after) → Operands (words_left w.after) t → StepSaid line t
 step_said line number w s t read is named apart operands = record {
-  behind = words_of w.after;
-  is = read.words apart ∙ ap (λ z. word_text z ∷ words_of w.after) is ∙ ap (λ z. step_text z ∷ words_of w.after) (sym named);
+  behind = words_left w.after;
+  is = read.words apart ∙ ap (λ z. word_text z ∷ words_left w.after) is ∙ ap (λ z. step_text z ∷ words_left w.after) (sym named);
   operands = operands;
 }
 
 -- ---- the word that a line begins with
 
-first_onto : (b : ℕ) (xs : List (List ℕ)) → (v : List ℕ) × (vs : List (List ℕ)) × (filter has_bytes (onto_first b xs) ≡ (b ∷ v) ∷ vs)
+first_onto : (b : ℕ) (xs : List (List ℕ)) → (v : List ℕ) × (vs : List (List ℕ)) × (filter not_empty (onto_first b xs) ≡ (b ∷ v) ∷ vs)
 first_onto b [] = ([], [], refl)
-first_onto b (x ∷ xs) = (x, filter has_bytes xs, refl)
+first_onto b (x ∷ xs) = (x, filter not_empty xs, refl)
 
 pub words_letter : (b : ℕ) (s : List ℕ) → is_space b ≡ false → (v : List ℕ) × (vs : List (List ℕ)) × (words (b ∷ s) ≡ (b ∷ v) ∷ vs)
 words_letter b s e =
     let first = first_onto b (slice_split is_space s) in
-    (first.0, first.1, words_are (b ∷ s) ∙ ap (filter has_bytes) (slice_split-cons_no is_space b s e) ∙ first.2)
+    (first.0, first.1, words_are (b ∷ s) ∙ ap (filter not_empty) (slice_split-cons_no is_space b s e) ∙ first.2)
 
 -- The first part of a text, into which no word goes on.
 record FirstPart (b : List ℕ) : Type 0 where
@@ -229,8 +229,8 @@ first_is (x ∷ u) b h some over =
     let first = first_part b over in
     record {
       part = first.part;
-      more = filter has_bytes first.more;
-      is = words_are ((x ∷ u) ++ b) ∙ ap (filter has_bytes) (parts_behind (x ∷ u) b first.part first.more (no_spaces (x ∷ u) h) first.is);
+      more = filter not_empty first.more;
+      is = words_are ((x ∷ u) ++ b) ∙ ap (filter not_empty) (parts_behind (x ∷ u) b first.part first.more (no_spaces (x ∷ u) h) first.is);
       over = first.over;
     }
 

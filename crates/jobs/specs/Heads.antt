@@ -7,7 +7,7 @@ use Rattle.std.specs.declared.alloc.Global.{Global}
 use Rattle.std.specs.declared.vec.Vec.{Vec}
 use Rattle.jobs.specs.Parsed.{Said, texts}
 use Rattle.jobs.specs.Places.{Counted, OfPart}
-use Rattle.jobs.specs.Signs.{words}
+use Rattle.jobs.specs.Signs.{words, not_empty}
 use Rattle.jobs.specs.Steps.{Begins, IsBlank, IsRow, Speaks, Unknown, head_text, step_text}
 use Rattle.jobs.specs.declared.job.Found.{Found}
 use Rattle.jobs.specs.declared.job.Head.{Head}
@@ -23,10 +23,6 @@ use Rattle.jobs.specs.declared.written.Written.{Written}
 abbrev pub behind : List ℕ → List (List ℕ) → Option (List (List ℕ))
 behind w [] = None
 behind w (v ∷ vs) = cond (bytes_eq v w) (Some vs) None
-
-abbrev pub some_of : List (List (List ℕ)) → Bool
-some_of [] = false
-some_of (ws ∷ more) = true
 
 -- What stands behind a word of the head on each of these lines that begins with it.
 abbrev pub given : HeadWord → List (List ℕ) → List (List (List ℕ))
@@ -50,7 +46,7 @@ abbrev pub OfHead : List ℕ → Type 0
 OfHead line = IsBlank line ⊎ ((h : HeadWord) × Begins (head_text h) line)
 
 -- These lines are right as lines of a head, each given once at most, and say this.
-pub record Good (ls : List (List ℕ)) (f : Found) : Type 0 where
+pub record RightSoFar (ls : List (List ℕ)) (f : Found) : Type 0 where
   pub yarn : Once (SpellsPile (texts f.files)) (given Yarn ls) f.yarn
   pub hands : Once (SpellsPile (texts f.files)) (given Hands ls) f.hands
   pub roles : Once SpellsRoles (given Roles ls) f.roles
@@ -70,7 +66,7 @@ Over (line ∷ ls) = (s : StepWord) × Begins (step_text s) line
 
 -- A line was taken in; or it is a step, and nothing was.
 abbrev pub Taken : List ℕ → Found → Found → Bool → Type 0
-Taken line old new false = (ls : List (List ℕ)) → Good ls old → Good (ls ++ (line ∷ [])) new
+Taken line old new false = (ls : List (List ℕ)) → RightSoFar ls old → RightSoFar (ls ++ (line ∷ [])) new
 Taken line old new true = (new ≡ old) × Over (line ∷ [])
 
 -- Why a line of the head is wrong: it was given already; or else its operand is wrong.
@@ -84,7 +80,7 @@ LineWrong line had w =
     Speaks line × (((w ≡ UnknownWord) × Unknown line) ⊎ ((h : HeadWord) × Begins (head_text h) line × HeadWrong (had h) w))
 
 -- What was found, where all was.
-pub record Holds (f : Found) (n : ℕ) (h : Head) : Type 0 where
+pub record AllFound (f : Found) (n : ℕ) (h : Head) : Type 0 where
   pub yarn : f.yarn ≡ Some h.yarn
   pub hands : f.hands ≡ Some h.hands
   pub files : h.files ≡ f.files
@@ -111,7 +107,7 @@ pub record Lacks (before from : List (List ℕ)) (w : Wrong) : Type 0 where
   pub over : Over from
 
 abbrev pub is_given : List (List ℕ) → HeadWord → Bool
-is_given ls h = some_of (given h ls)
+is_given ls h = not_empty (given h ls)
 
 -- The first line here is wrong as a line of a head.
 abbrev pub FirstWrong : List (List ℕ) → List (List ℕ) → Wrong → Type 0
@@ -122,5 +118,5 @@ FirstWrong before (line ∷ ls) w = LineWrong line (is_given before) w
 -- that is missing where the head is over, or of the line that stands there.
 pub record Spoilt (ls : List (List ℕ)) (e : BadText) : Type 0 where
   pub counted : Counted e.place
-  pub before : (f : Found) × Good (take (e.place.line - 1) ls) f
+  pub before : (f : Found) × RightSoFar (take (e.place.line - 1) ls) f
   pub why : Lacks (take (e.place.line - 1) ls) (drop (e.place.line - 1) ls) e.wrong ⊎ FirstWrong (take (e.place.line - 1) ls) (drop (e.place.line - 1) ls) e.wrong

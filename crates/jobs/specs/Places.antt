@@ -46,8 +46,8 @@ abbrev pub rest_of : Cursor → List ℕ
 rest_of c = squeezed (left_of c)
 
 -- What is left of the text, as its words.
-abbrev pub words_of : Cursor → List (List ℕ)
-words_of c = words (left_of c)
+abbrev pub words_left : Cursor → List (List ℕ)
+words_left c = words (left_of c)
 
 -- A later place of the same text; between the two stands s, with spaces.
 pub record After (c d : Cursor) (s : List ℕ) : Type 0 where
@@ -57,7 +57,7 @@ pub record After (c d : Cursor) (s : List ℕ) : Type 0 where
 -- Behind spaces stands this word, which is not empty, and the second place is where it ends.
 pub record NextWord (c d : Cursor) (w : List ℕ) : Type 0 where
   pub after : After c d w
-  pub same_words : words_of c ≡ words (w ++ left_of d)
+  pub same_words : words_left c ≡ words (w ++ left_of d)
   pub some : 0 < length w
   pub whole : AllByRecursion (λ b. ends_word b ≡ false) w
   pub over : WordOver (left_of d)

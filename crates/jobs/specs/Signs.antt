@@ -18,13 +18,13 @@ squeezed (b ∷ bs) = cond (is_space b) (squeezed bs) (b ∷ squeezed bs)
 abbrev pub ends_word : ℕ → Bool
 ends_word b = is_space b || (b == 40 || (b == 44 || b == 41))
 
-abbrev pub has_bytes : List ℕ → Bool
-has_bytes [] = false
-has_bytes (b ∷ bs) = true
+abbrev pub not_empty : {T : Type 0} → List T → Bool
+not_empty [] = false
+not_empty (x ∷ xs) = true
 
 -- The words of a text, which stand apart by spaces.
 unfoldable pub words : List ℕ → List (List ℕ)
-words s = filter has_bytes (slice_split is_space s)
+words s = filter not_empty (slice_split is_space s)
 
 -- No word goes on into this text.
 abbrev pub WordOver : List ℕ → Type 0

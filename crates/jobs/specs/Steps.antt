@@ -1,7 +1,7 @@
 -- What a line of a job says.
 use Rattle.std.specs.Prelude.{◌≡◌, ℕ, List, [], ◌∷◌, ◌++◌, ◌⊎◌, codes, slice_index, Option, Some, None}
 use Rattle.book.specs.declared.entry.Entry.{Entry}
-use Rattle.jobs.specs.Places.{left_of, words_of, IsOn, OfPart}
+use Rattle.jobs.specs.Places.{left_of, words_left, IsOn, OfPart}
 use Rattle.jobs.specs.Signs.{squeezed, words, WordOver, Apart, Numeral}
 use Rattle.jobs.specs.declared.job.LineWord.{LineWord}
 use Rattle.jobs.specs.declared.job.LineWord.TheVariants.{Head as HeadLine, Step as StepLine}
@@ -105,5 +105,5 @@ pub record WordRead (line : List ℕ) (number : ℕ) (w : WordLine) : Type 0 whe
   pub place : IsOn line number w.here w.after
   pub text : words line ≡ words (word_text w.word ++ left_of w.after)
   pub over : WordOver (left_of w.after)
-  pub words : Apart (left_of w.after) → words line ≡ word_text w.word ∷ words_of w.after
+  pub words : Apart (left_of w.after) → words line ≡ word_text w.word ∷ words_left w.after
   pub speaks : Speaks line

@@ -1,5 +1,5 @@
 // Building the pile that is written.
-ghost use Rattle.std.specs.Prelude.{◌≡◌, MatchResult, MatchOption};
+ghost use Rattle.std.specs.Prelude.{◌≡◌, MatchResult};
 ghost use Rattle.jobs.specs.Building.{Answers};
 ghost use Rattle.jobs.specs.Leaves.{leaf_means};
 ghost use Rattle.jobs.specs.Refused.{PlusRefused, CipherRefused};

@@ -90,7 +90,7 @@ impl<'a> Source<'a> {
 
 impl<'a> Cursor<'a> {
     ghost use Rattle.std.specs.Prelude.{◌+◌, ◌==◌, [], ◌∷◌, MatchResult};
-    ghost use Rattle.jobs.specs.Places.{Within, InText, After, NextWord, NumberRead, left_of, rest_of, words_of};
+    ghost use Rattle.jobs.specs.Places.{Within, InText, After, NextWord, NumberRead, left_of, rest_of, words_left};
 
     pub(crate) fn new(source: Source<'a>) -> Cursor<'a>
         ensures source { result.source ≡ source.entry }
@@ -149,7 +149,7 @@ impl<'a> Cursor<'a> {
 
     pub(crate) fn past_spaces(self) -> Cursor<'a>
         ensures after { After self.entry result [] }
-        ensures apart { words_of result ≡ words_of self.entry }
+        ensures apart { words_left result ≡ words_left self.entry }
         ensures flush { Flush (left_of result) }
     {
         self.past(count_spaces(self.rest()))

@@ -6,8 +6,8 @@ ghost use Rattle.jobs.specs.Heads.{SpellsRoles, Whole, Spoilt};
 ghost use Rattle.jobs.specs.declared.job.LineWord.{LineWord as LineWordOf};
 ghost use Rattle.jobs.specs.declared.place.HeadWord.{HeadWord as HeadWordOf};
 ghost use Rattle.jobs.specs.declared.place.Wrong.TheVariants.{MissingLine, TwiceGiven, UnknownWord};
-ghost use Rattle.jobs.specs.Places.{OnLine, Within, InText, left_of, rest_of, words_of};
-ghost use Rattle.jobs.specs.Signs.{squeezed, words, WordOver, Apart};
+ghost use Rattle.jobs.specs.Places.{OnLine, Within, InText, left_of, words_left};
+ghost use Rattle.jobs.specs.Signs.{words, WordOver, Apart};
 ghost use Rattle.jobs.specs.Steps.{IsBlank, WordRead, Says, StepWrong, Speaks, Unknown, Operands, IsEntry, IsRow, word_text, word_of};
 
 use crate::cursor::{Cursor, Source};
@@ -132,7 +132,7 @@ pub fn read_step(line: &str, number: usize) -> Result<Option<Step<'_>>, BadText>
 // The step of this word, whose operands stand after it.
 fn step_of(word: StepWord, after: Cursor<'_>) -> Result<Step<'_>, BadText>
     requires over { WordOver (left_of after) }
-    ensures { MatchResult result (λ step. (word_of step ≡ word) × Apart (left_of after.entry) × Operands (words_of after.entry) step) (λ e. InText after.entry.source e) }
+    ensures { MatchResult result (λ step. (word_of step ≡ word) × Apart (left_of after.entry) × Operands (words_left after.entry) step) (λ e. InText after.entry.source e) }
 {
     match word {
         StepWord::Rows => Ok(Step::Rows(file_of(after)?)),
@@ -150,7 +150,7 @@ fn step_of(word: StepWord, after: Cursor<'_>) -> Result<Step<'_>, BadText>
 
 fn file_of(after: Cursor<'_>) -> Result<&str, BadText>
     requires over { WordOver (left_of after) }
-    ensures { MatchResult result (λ name. Apart (left_of after.entry) × (words_of after.entry ≡ name.now ∷ [])) (λ e. InText after.entry.source e) }
+    ensures { MatchResult result (λ name. Apart (left_of after.entry) × (words_left after.entry ≡ name.now ∷ [])) (λ e. InText after.entry.source e) }
 {
     let (name, after) = after.name()?;
     after.finish()?;
@@ -159,7 +159,7 @@ fn file_of(after: Cursor<'_>) -> Result<&str, BadText>
 
 fn row_of(after: Cursor<'_>) -> Result<usize, BadText>
     requires over { WordOver (left_of after) }
-    ensures { MatchResult result (λ row. Apart (left_of after.entry) × IsRow (words_of after.entry) row) (λ e. InText after.entry.source e) }
+    ensures { MatchResult result (λ row. Apart (left_of after.entry) × IsRow (words_left after.entry) row) (λ e. InText after.entry.source e) }
 {
     let (row, after) = after.count()?;
     after.finish()?;
@@ -168,7 +168,7 @@ fn row_of(after: Cursor<'_>) -> Result<usize, BadText>
 
 fn entry_of(after: Cursor<'_>) -> Result<Entry, BadText>
     requires over { WordOver (left_of after) }
-    ensures { MatchResult result (λ entry. Apart (left_of after.entry) × IsEntry (words_of after.entry) entry) (λ e. InText after.entry.source e) }
+    ensures { MatchResult result (λ entry. Apart (left_of after.entry) × IsEntry (words_left after.entry) entry) (λ e. InText after.entry.source e) }
 {
     let (row, after) = after.count()?;
     let (column, after) = after.count()?;
@@ -187,11 +187,11 @@ struct Found {
 }
 
 impl Found {
-    ghost use Rattle.jobs.specs.Heads.{Good, Holds, Taken, HeadWrong, LineWrong, has_line};
+    ghost use Rattle.jobs.specs.Heads.{RightSoFar, AllFound, Taken, HeadWrong, LineWrong, has_line};
     ghost use Rattle.jobs.specs.Steps.{head_text};
 
     fn nothing(heap: Global) -> Found
-        ensures { Good [] result }
+        ensures { RightSoFar [] result }
     {
         Found {
             yarn: None,
@@ -240,7 +240,7 @@ impl Found {
         requires same { after.source ≡ here.source }
         requires text { words here.source.bytes.now ≡ words (head_text word ++ left_of after) }
         requires over { WordOver (left_of after) }
-        requires words { Apart (left_of after) → words here.source.bytes.now ≡ head_text word ∷ words_of after }
+        requires words { Apart (left_of after) → words here.source.bytes.now ≡ head_text word ∷ words_left after }
         ensures { MatchResult result (λ _. Taken here.entry.source.bytes.now self.old self.new false) (λ e. Within here.entry.source e.place × HeadWrong (has_line self.old word) e.wrong) }
     {
         if self.has(word) {
@@ -258,7 +258,7 @@ impl Found {
     // The head, if it ends at this line.
     fn head(self, lines: usize) -> Result<Head, BadText>
         requires { lines + 1 < 2 ^ 64 }
-        ensures { MatchResult result (λ head. Holds self lines head) (λ e. (word : HeadWordOf) × (has_line self word ≡ false) × (e.wrong ≡ MissingLine word) × (e.place.line ≡ lines + 1) × (e.place.column ≡ 1)) }
+        ensures { MatchResult result (λ head. AllFound self lines head) (λ e. (word : HeadWordOf) × (has_line self word ≡ false) × (e.wrong ≡ MissingLine word) × (e.place.line ≡ lines + 1) × (e.place.column ≡ 1)) }
     {
         let Found {
             yarn,
@@ -297,7 +297,7 @@ fn needed<T: Drop>(found: Option<T>, word: HeadWord, lines: usize) -> Result<T, 
 
 fn letters(heap: Global, after: Cursor<'_>) -> Result<Vec<char>, BadText>
     requires over { WordOver (left_of after) }
-    ensures { MatchResult result (λ v. Apart (left_of after.entry) × SpellsRoles (words_of after.entry) v) (λ e. InText after.entry.source e) }
+    ensures { MatchResult result (λ v. Apart (left_of after.entry) × SpellsRoles (words_left after.entry) v) (λ e. InText after.entry.source e) }
 {
     let letters = file_of(after)?;
     match chars_of(heap, letters) {

@@ -1,5 +1,5 @@
 // Reading a pile that is written out.
-ghost use Rattle.std.specs.Prelude.{◌≡◌, ◌+◌, length, drop, IfErr, IfOk, IfSome, MatchResult, slice_get, List, ℕ};
+ghost use Rattle.std.specs.Prelude.{◌≡◌, ◌+◌, length, IfOk, IfSome, MatchResult, slice_get, List, ℕ};
 ghost use Rattle.jobs.specs.declared.parse.Form.TheVariants.{Clear as FormClear, Plus as FormPlus, KCipher as FormKCipher, Chain as FormChain, Turned as FormTurned, Narrowed as FormNarrowed};
 ghost use Rattle.jobs.specs.Places.{OnLine, InText, rest_of};
 ghost use Rattle.jobs.specs.Parsed.{texts, Grown, Placed, form_name, Said, PileRead, InsideRead, NameRead};

@@ -3,7 +3,7 @@ use Rattle.std.proofs.lemmas.Iterator.Consumers.{YieldsList-at, YieldsList-so_fa
 use Rattle.std.proofs.lemmas.Iterator.Splits.{YieldsList-from_lines}
 use Rattle.std.proofs.lemmas.List.{length_push, map_push}
 use Rattle.std.proofs.lemmas.Result.{err_from_is_err_and}
-use Rattle.jobs.specs.Heads.{Good}
+use Rattle.jobs.specs.Heads.{RightSoFar}
 use Rattle.jobs.proofs.Heading.{line_spoilt, head_step, head_end}
 use Rattle.jobs.proofs.job.read_head.Goals as goal
 
@@ -29,7 +29,7 @@ loop-line-preserved c =
     let size = length_push c.loop-line.yielded c.in-Some.line in
     record {
       count = omega (arith, size, c.loop-line.invariant.count);
-      good = subst (λ z. Good z c.take_line.new.self) (sym (map_push (λ x. x.now) c.loop-line.yielded c.in-Some.line)) (taken _ c.loop-line.invariant.good);
+      good = subst (λ z. RightSoFar z c.take_line.new.self) (sym (map_push (λ x. x.now) c.loop-line.yielded c.in-Some.line)) (taken _ c.loop-line.invariant.good);
     }
 
 pub returns : goal.returns

@@ -1,5 +1,5 @@
 use Rattle.std.proofs.Common.{◌≡◌, ◌∷◌, ◌++◌, ◌<◌, length, get_or, ap, sym, ◌∙◌, drop, inl, subst}
-use Rattle.jobs.specs.Places.{left_of, rest_of, words_of}
+use Rattle.jobs.specs.Places.{left_of, rest_of, words_left}
 use Rattle.jobs.specs.Signs.{squeezed, words}
 use Rattle.jobs.specs.declared.cursor.Source.{Source}
 use Rattle.jobs.specs.declared.place.Place.{Place}
@@ -43,7 +43,7 @@ returns-in-Some c =
       text = sym (ap words line) ∙ sym gap.apart ∙ ap words word.is ∙ ap (λ z. words (z ++ left_of c.word.result.1)) named;
       over = word.over;
       words = λ apart. first_word c.args.line.now start c.past_spaces-here.result c.word.result.1 c.word.result.0.now (ap words line) gap.apart word.is word.whole some apart
-          ∙ ap (λ z. z ∷ words_of c.word.result.1) named;
+          ∙ ap (λ z. z ∷ words_left c.word.result.1) named;
       speaks = speaks c.args.line.now (left_of here) c.word.result.0.now _ (sym (ap squeezed line) ∙ gap.after.text) word.is word.over gap.flush more other;
     }
 
