@@ -16,7 +16,7 @@ pub struct Order {
 }
 
 // The first place that is too large, stands before too, or is not 0 after the size.
-#[derive(Clone, Copy, PartialEq, Eq, Debug)]
+#[derive(PartialEq, Eq, Debug, Drop)]
 pub struct NotAnOrder {
     pub place: usize,
 }

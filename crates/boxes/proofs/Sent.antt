@@ -1,5 +1,7 @@
 -- A CPA box as the code works it out, on numbers of which the lowest bits count.
-use Rattle.std.proofs.Common.{◌≡◌, ℕ, ◌+◌, ◌-◌, ◌%◌, ◌^◌, sym, ap, ◌∙◌}
+use Rattle.std.proofs.Common.{◌≡◌, ℕ, ◌+◌, ◌-◌, ◌/◌, ◌%◌, ◌^◌, ◌<◌, ◌≤◌, sym, ap, ◌∙◌}
+use Rattle.std.proofs.Math.Nat.{div-eq_of_lt, lt_of_lt_of_le}
+use Rattle.std.proofs.Math.Pow.{pow_mono}
 use native.Mathlib.Nat.{mod-mod, add-mod-mod}
 use lib.Bits.{bit_xor, xor_mod}
 use Rattle.bits.specs.Words.{wrapped_sum, wrapped_difference, turned, turned_left, turned_right}
@@ -23,3 +25,7 @@ sent_back_is m r0 r1 y t s i c ht hs hi hc =
     ∙ ap (λ z. bit_xor z (r0 % 2 ^ m)) (hi ∙ ap (λ z. flex m (z % 2 ^ m)) hs ∙ ap (flex m) (mod-mod (t + (2 ^ m - r1 % 2 ^ m)) (2 ^ m))
     ∙ ap (λ z. flex m (wrapped_difference m z r1)) (ht ∙ turned_right_mod m 2 y)
     ∙ ap (λ z. flex m ((turned_right m 2 (y % 2 ^ m) + (2 ^ m - z)) % 2 ^ m)) (sym (mod-mod r1 (2 ^ m))))
+
+-- a number of 64 bits has none from place 64 on
+pub none_left : (r p : ℕ) → r < 2 ^ 64 → 64 ≤ p → 0 ≡ r / 2 ^ p
+none_left r p h k = sym (div-eq_of_lt (lt_of_lt_of_le h (pow_mono k)))

@@ -4,11 +4,11 @@ use Rattle.bits.specs.Words.{wrapped_sum, wrapped_difference, turned_left, turne
 use Rattle.field.specs.Fields.{inverse}
 use Rattle.field.specs.Widths.{low_part}
 
--- A Flex box of width m gives the inverse, and 0 for 0.
+-- A Flex box is the inverse in the field of its width m, under which 0 stays 0.
 unfoldable pub flex : ℕ → ℕ → ℕ
 flex m x = inverse m (low_part m) x
 
--- A CPA box with random parts r0 and r1 inverts x XOR r0, adds r1 modulo 2^m, and turns the bits left by 2 within the width.
+-- A CPA box has two random parts: x XOR r0 is inverted, r1 is added modulo 2^m, and the m bits are turned left by 2.
 unfoldable pub cpa : ℕ → ℕ → ℕ → ℕ → ℕ
 cpa m r0 r1 x = turned_left m 2 (wrapped_sum m (flex m (bit_xor x r0)) r1)
 

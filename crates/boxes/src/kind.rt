@@ -12,7 +12,6 @@ pub trait BoxKind {
 
     // The value in the lowest bits of x, sent through the box.
     fn send(&self, cell: Cell, place: u32, x: u64) -> u64
-        requires near { place < 64 }
         ensures is { result ≡ does self.now place cell.width.bits (x % 2 ^ cell.width.bits) }
         ensures small { result < 2 ^ cell.width.bits };
 }
@@ -23,7 +22,6 @@ pub trait Invertible: BoxKind {
 
     // The value in the lowest bits of y, sent back through the box.
     fn back(&self, cell: Cell, place: u32, y: u64) -> u64
-        requires near { place < 64 }
         ensures is { result ≡ undoes self.now place cell.width.bits (y % 2 ^ cell.width.bits) }
         ensures small { result < 2 ^ cell.width.bits };
 
@@ -83,16 +81,23 @@ impl Invertible for Cpa {
 }
 
 impl Cpa {
-    // The random parts from a place on.
+    // The random parts from a place on; behind bit 63 their bits are 0.
     fn at(self, place: u32) -> Cpa
-        requires { place < 64 }
         ensures { (result.r0 ≡ self.r0 / 2 ^ place) × (result.r1 ≡ self.r1 / 2 ^ place) }
     {
         Cpa {
-            r0: self.r0 >> place,
-            r1: self.r1 >> place,
+            r0: from_place(self.r0, place),
+            r1: from_place(self.r1, place),
         }
     }
+}
+
+// The bits of r from a place on.
+#[tactic(auto, using(crate::proofs::Sent::none_left))]
+fn from_place(r: u64, place: u32) -> u64
+    ensures { result ≡ r / 2 ^ place }
+{
+    r.checked_shr(place).unwrap_or(0)
 }
 
 // A kind of box the other way round.

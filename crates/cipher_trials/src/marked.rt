@@ -10,7 +10,7 @@ use codings::coding::Coding;
 use codings::narrowed::Narrowed;
 use codings::plus::Plus;
 use field::field::Field;
-use flows::case::{Case, Plain, Rule, Shift};
+use flows::case::{Claim, Plain, Rule, Shift};
 use flows::marked::marked_cases;
 use kcipher::make::make;
 use std::alloc::Global;
@@ -19,9 +19,11 @@ use std::test::Fail;
 #[test]
 fn marked_cases_come_out(rt: HostRuntime) -> Result<(), Fail> {
     for case in marked_cases() {
-        match case {
-            Case::Boxes(width, shape) => assert_eq!(rt; boxes_of(width), Some(shape)),
-            Case::Sends(rule, x, result) => assert_eq!(rt; sent(rt.alloc(), rule, x)?, result),
+        for claim in case {
+            match *claim {
+                Claim::Boxes(width, shape) => assert_eq!(rt; boxes_of(width), Some(shape)),
+                Claim::Sends(rule, x, result) => assert_eq!(rt; sent(rt.alloc(), rule, x)?, result),
+            }
         }
     }
     Ok(())

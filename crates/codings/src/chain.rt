@@ -1,4 +1,4 @@
-// Chain: one coding after the other. A number above one part's top passes that part unchanged.
+// Chain: one coding after the other. A part leaves alone what is above its own top.
 ghost use Rattle.std.specs.Prelude.{◌≡◌};
 ghost use Rattle.codings.specs.Asking.{coded};
 ghost use Rattle.meanings.specs.Layers.{chained};

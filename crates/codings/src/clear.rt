@@ -1,4 +1,4 @@
-// Clear: a chosen top, and each number is its own code.
+// Clear: no number up to the top is changed.
 ghost use Rattle.std.specs.Prelude.{◌≡◌};
 ghost use Rattle.meanings.specs.Supplied.{clear};
 ghost use Rattle.meanings.proofs.Lawful.{clear_lawful};
@@ -6,7 +6,7 @@ ghost use Rattle.meanings.proofs.Lawful.{clear_lawful};
 use crate::coding::Coding;
 use crate::refusal::{AboveTop, at_most};
 
-#[derive(Clone, Copy)]
+#[derive(Drop)]
 pub struct Clear {
     top: u64,
 }

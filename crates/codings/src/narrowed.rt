@@ -1,5 +1,5 @@
-// Narrowed: the coding below on the numbers up to a smaller top. Its rule is applied once, and again until
-// the number is at most the new top.
+// Narrowed: the coding below on the numbers up to a smaller top. One step of its rule is always taken, and
+// more for as long as they lead past the new top.
 ghost use Rattle.std.specs.Prelude.{◌≡◌};
 ghost use Rattle.codings.specs.Asking.{coded};
 ghost use Rattle.meanings.specs.Layers.{narrowed};

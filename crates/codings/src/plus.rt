@@ -1,4 +1,4 @@
-// Plus: a top t and a constant k, and x is coded as (x + k) mod (t + 1).
+// Plus: a constant is added, modulo one more than the top.
 ghost use Rattle.std.specs.Prelude.{◌≡◌, ◌<◌, ◌≤◌, MatchResult};
 ghost use Rattle.codings.specs.Wrapping.{Wraps};
 ghost use Rattle.meanings.specs.Supplied.{plus};
@@ -7,7 +7,7 @@ ghost use Rattle.meanings.proofs.Lawful.{plus_lawful};
 use crate::coding::Coding;
 use crate::refusal::{AboveTop, at_most};
 
-#[derive(Clone, Copy)]
+#[derive(Drop)]
 pub struct Plus {
     top: u64,
     k: u64,

@@ -2,4 +2,3 @@ pub mod Polynomials
 pub mod Fields
 pub mod Widths
 pub mod Code
-pub mod Known

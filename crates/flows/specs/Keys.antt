@@ -37,7 +37,8 @@ spare p key = number_at (byte_bit key) (key_bits p) (spare_bits p)
 abbrev pub order_of : Parts → ℕ → ℕ → List ℕ
 order_of p k size = take size (slice_index_or p.orders k [])
 
--- Above 32 bits the lowest 64 bits of the key plus C1 go through order 4, the Flex boxes of width 64 and order 5.
+-- A cipher wider than 32 bits needs more bits than its key has. They are made of the key's lowest 64: C1 is added modulo 2^64,
+-- order 4 moves the sum's bits, the Flex boxes of 64 bits invert, and order 5 moves the bits again.
 abbrev pub expanded : Parts → List ℕ → ℕ
 expanded p key =
     let u = wrapped_sum 64 (number_at (byte_bit key) 0 64) p.c1 in
@@ -57,11 +58,12 @@ schedule p key = elim (nat_lt 32 p.width) [ true ↦ with_more (byte_bit key) (e
 abbrev pub round_key : Parts → List ℕ → ℕ → ℕ
 round_key p key j = number_at (schedule p key) (j * p.width) p.width
 
--- The bits of the randomizer follow the schedule key.
+-- The randomizer begins where the schedule key ends.
 abbrev pub randomizer : Parts → List ℕ → ℕ → ℕ
 randomizer p key i = byte_bit key (schedule_bits p.width + i)
 
--- In round j the box on bits p and up takes r0 from randomizer bit 2jn + p and r1 from (2j + 1)n + p.
+-- A box whose lowest bit is p finds its two parts for round j in the randomizer, n bits apart: r0 begins at bit 2jn + p, and
+-- r1 at (2j + 1)n + p.
 abbrev pub first_part : ℕ → (ℕ → ℕ) → ℕ → ℕ → ℕ → ℕ
 first_part n random j p m = number_at random (2 * j * n + p) m
 

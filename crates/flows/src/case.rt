@@ -1,4 +1,4 @@
-// What a marked case says.
+// What a marked case says: it is a list of claims.
 use boxes::shape::Shape;
 use spelling::parts::Flow;
 
@@ -40,7 +40,7 @@ pub enum Rule {
 }
 
 #[derive(Clone, Copy)]
-pub enum Case {
+pub enum Claim {
     // The boxes of a width.
     Boxes(u32, Shape),
     // A rule, a number, and what comes of it.

@@ -5,6 +5,7 @@ ghost use Rattle.std.specs.Prelude.{◌≡◌, min};
 ghost use Rattle.codings.specs.Asking.{coded};
 ghost use Rattle.laws.specs.Shown.{Agree, Shown, sides};
 ghost use Rattle.meanings.specs.Layers.{chained, turned, narrowed};
+ghost use Rattle.meanings.specs.Meaning.{Lawful, EachOnce};
 ghost use Rattle.meanings.specs.Piles.{AnyThree, EveryPile};
 ghost use Rattle.meanings.specs.Supplied.{clear};
 
@@ -18,9 +19,12 @@ use meanings::narrowed_top;
 
 pub mod sides;
 
-// The code of x turned back: x again, or the refusal where x is above the top.
+// The code of x turned back: x again, or the refusal where x is above the top. It is so at every number, since both ways undo
+// each other and each number up to the top is exactly once a code: the contract names that law of the coding too.
 pub fn there_and_back<C: Coding>(coding: &C, x: u64) -> Result<u64, AboveTop>
-    ensures { result ≡ coded (clear (C.Coding.means coding.now).top) x }
+    ensures is { result ≡ coded (clear (C.Coding.means coding.now).top) x }
+    ensures both_ways { Lawful (C.Coding.means coding.now) }
+    ensures once { EachOnce (C.Coding.means coding.now) }
 {
     coding.back(coding.code(x)?)
 }
@@ -28,7 +32,9 @@ pub fn there_and_back<C: Coding>(coding: &C, x: u64) -> Result<u64, AboveTop>
 // The code of the number whose code is y: y again, or the refusal where y is above the top. By `there_and_back` of the
 // coding turned it would be no shorter.
 pub fn back_and_there<C: Coding>(coding: &C, y: u64) -> Result<u64, AboveTop>
-    ensures { result ≡ coded (clear (C.Coding.means coding.now).top) y }
+    ensures is { result ≡ coded (clear (C.Coding.means coding.now).top) y }
+    ensures both_ways { Lawful (C.Coding.means coding.now) }
+    ensures once { EachOnce (C.Coding.means coding.now) }
 {
     coding.code(coding.back(y)?)
 }

@@ -1,23 +1,23 @@
 // The two sides of equations between codings, asked about one number.
 use codings::refusal::AboveTop;
 
-#[derive(Clone, Copy, PartialEq, Eq, Debug)]
+#[derive(Drop)]
 pub struct Sides {
     pub left: Result<u64, AboveTop>,
     pub right: Result<u64, AboveTop>,
 }
 
 // One pair of sides for each of the five laws.
-#[derive(Clone, Copy, PartialEq, Eq, Debug)]
+#[derive(Drop)]
 pub struct FiveLaws {
-    // Chaining is associative.
+    // In a chain of three it makes no difference which two are taken together.
     pub regrouped: Sides,
-    // Turned twice is the coding.
+    // Two turns come to none.
     pub turned_twice: Sides,
-    // The turned chain is the chain of the turned parts in reverse.
+    // A chain is turned by turning its parts and swapping them.
     pub turned_chain: Sides,
-    // A narrowed coding turned is the turned one narrowed to the same number.
+    // Turning and narrowing to a number may be done in either order.
     pub turned_narrowed: Sides,
-    // Narrowed to one number and then to another is narrowed to the smaller.
+    // Of two narrowings the smaller bound alone counts.
     pub narrowed_twice: Sides,
 }

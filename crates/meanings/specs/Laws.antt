@@ -5,15 +5,15 @@ use Rattle.meanings.specs.Layers.{chained, turned, narrowed}
 
 -- The five laws, for the codings a, b and c and the numbers t and u.
 pub record Laws (a b c : Meaning) (t u : ℕ) : Type 0 where
-  -- chaining is associative
+  -- in a chain of three it makes no difference which two are taken together
   pub regrouped : Same (chained a (chained b c)) (chained (chained a b) c)
-  -- turned twice is the coding
+  -- two turns come to none
   pub turned_twice : Same (turned (turned a)) a
-  -- the turned chain is the chain of the turned parts in reverse
+  -- a chain is turned by turning its parts and swapping them
   pub turned_chain : Same (turned (chained a b)) (chained (turned b) (turned a))
-  -- a narrowed coding turned is the turned one narrowed to the same t
+  -- turning and narrowing to t may be done in either order
   pub turned_narrowed : Same (turned (narrowed t a)) (narrowed t (turned a))
-  -- narrowed to t and then to u is narrowed to the smaller
+  -- of two narrowings, to t and to u, the smaller bound alone counts
   pub narrowed_twice : Same (narrowed u (narrowed t a)) (narrowed (min t u) a)
 
 -- `Same` is an equivalence, every layer keeps it, and equal codings have equal ways back.

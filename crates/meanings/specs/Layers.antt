@@ -9,7 +9,7 @@ pub record Meets (m : Meaning) (x y : ℕ) : Type 0 where
   pub coded : x ≤ m.top → y ≡ m.rule x
   pub passed : m.top < x → y ≡ x
 
--- c is the chain of a and b: its top is the larger of the two, and a number meets a, then b.
+-- c is the chain of a and b: whichever top is larger is its own, and a number meets a, then b.
 pub record IsChain (a b c : Meaning) : Type 0 where
   pub top : c.top ≡ max a.top b.top
   pub rule : (x : ℕ) → x ≤ c.top → (w : ℕ) × Meets a x w × Meets b w (c.rule x)

@@ -4,7 +4,7 @@ use Rattle.meanings.specs.Meaning.{Meaning, Lawful, Same, SameBack, EachOnce}
 use Rattle.meanings.specs.Layers.{chained, turned, narrowed, IsChain, IsTurned, IsNarrowed}
 use Rattle.meanings.specs.Laws.{Laws, Equality}
 
--- A pile is any lawful coding, or a chain of two piles, or a pile turned or narrowed.
+-- Piles: a lawful coding by itself is one, and a layer makes one of others: it chains two of them, or turns or narrows one.
 pub data Pile : Type 0 where
   leaf : (m : Meaning) → Lawful m → Pile
   chain_of : Pile → Pile → Pile

@@ -2,11 +2,11 @@
 use Rattle.std.specs.Prelude.{ℕ, ◌+◌, ◌-◌, ◌%◌, true, false, nat_le}
 use Rattle.meanings.specs.Meaning.{Meaning}
 
--- Clear has a chosen top, and each number is its own code.
+-- Clear changes nothing: under any top, a number is coded as itself.
 abbrev pub clear : ℕ → Meaning
 clear t = record { top = t; rule = λ x. x; back = λ y. y }
 
--- Plus has a top t and a constant k of at most t, and codes x as (x + k) mod (t + 1).
+-- Plus adds k, which is no larger than its top t, and begins again at 0 behind t: the sum counts modulo t + 1.
 abbrev pub plus : ℕ → ℕ → Meaning
 plus t k = record {
   top = t;

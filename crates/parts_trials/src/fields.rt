@@ -1,7 +1,6 @@
 // Every value of the widths 5 to 10 against the field's rule worked out another way, and the widths that have a field.
 use crate::expected::there;
 use field::field::Field;
-use field::known_inverses;
 use std::process::Abort;
 use std::test::Fail;
 
@@ -90,10 +89,16 @@ fn each_value_has_its_inverse(rt: HostRuntime) -> Result<(), Fail> {
 
 #[test]
 fn known_inverses_come_out(rt: HostRuntime) -> Result<(), Fail> {
-    for known in &known_inverses() {
-        let field = there(Field::of_width(known.width), known.width)?;
-        assert_eq!(rt; field.inverse(known.of), known.inverse);
-        assert_eq!(rt; field.inverse(known.inverse), known.of);
+    let known = [
+        (5, 2, 18),
+        (8, 0x53, 0xca),
+        (14, 2, 8_208),
+        (25, 2, 16_777_220),
+    ];
+    for (width, of, inverse) in known {
+        let field = there(Field::of_width(width), width)?;
+        assert_eq!(rt; field.inverse(of), inverse);
+        assert_eq!(rt; field.inverse(inverse), of);
     }
     Ok(())
 }

@@ -78,7 +78,7 @@ fn refusals(rt: HostRuntime) {
 fn narrowed_chain_is_another(rt: HostRuntime) -> Result<(), Fail> {
     let a = Plus::new(7, 3)?;
     let b = Plus::new(7, 1)?;
-    assert_eq!(rt; Narrowed::new(Chain::new(a, b), 4).code(1), Ok(1));
+    assert_eq!(rt; Narrowed::new(Chain::new(&a, &b), 4).code(1), Ok(1));
     assert_eq!(rt;
         Chain::new(Narrowed::new(a, 4), Narrowed::new(b, 4)).code(1),
         Ok(0)

@@ -9,7 +9,7 @@ use codings::chain::Chain;
 use codings::coding::Coding;
 use codings::refusal::{AboveTop, at_most};
 
-#[derive(Clone, Copy)]
+#[derive(Drop)]
 pub struct Mirror {
     top: u64,
 }

@@ -10,8 +10,8 @@ use Rattle.flows.specs.Strings.{number_at}
 use Rattle.meanings.specs.Layers.{walk}
 use Rattle.flows.proofs.marked.all_hold.Goals as goal
 
--- each case works out
+-- each claim works out
 pub returns : goal.returns
 unfolding moved turned_left flex cpa layer layout searched best choose better candidate permitted twice ones inverse along counted number_at walk
 returns c =
-    (refl, (refl, (refl, (refl, (refl, (refl, (refl, (refl, (refl, (refl, (refl, (refl, (refl, (refl, (refl, (refl, (refl, (refl, (refl, (refl, (refl, (refl, (refl, (refl, (refl, (refl, (refl, tt)))))))))))))))))))))))))))
+    ((refl, (refl, (refl, tt))), ((refl, tt), ((refl, tt), ((refl, tt), ((refl, (refl, (refl, tt))), ((refl, (refl, tt)), ((refl, (refl, tt)), ((refl, (refl, tt)), ((refl, tt), ((refl, (refl, (refl, tt))), ((refl, (refl, (refl, (refl, (refl, tt))))), ((refl, (refl, (refl, tt))), tt))))))))))))

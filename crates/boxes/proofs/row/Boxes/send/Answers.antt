@@ -9,13 +9,6 @@ loop-i-init g c =
     let b = c.args.self.now in
     rowed_start _ b.size (widths (layout b.size)) c.args.x (bits_widths b.size (layout b.size) (layout_cut b.size b.least b.fits))
 
-pub send-requires : goal.send-requires
-send-requires g c =
-    let l = c.loop-i in
-    let same = c.bits-bits.ensures ∙ ap (λ z. z.bits) c.width.ensures in
-    let n = next c.args.self.now _ c.args.x l.i l.place l.left l.out c.bits-bits.result _ c.loop-i-test.true c.cell-cell.ensures same l.invariant in
-    record { near = omega (arith, n.room, c.bits-bits.ensures, c.width.result.some) }
-
 pub overflow_shl-out : goal.overflow_shl-out
 overflow_shl-out g c =
     let l = c.loop-i in

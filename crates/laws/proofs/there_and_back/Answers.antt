@@ -1,0 +1,8 @@
+use Rattle.meanings.proofs.Lawful.{each_once}
+use Rattle.laws.proofs.there_and_back.Goals as goal
+
+pub returns-in_err-code-clause-once : goal.returns-in_err-code-clause-once
+returns-in_err-code-clause-once g c = each_once _ (g.C.Coding.lawful c.args.coding.now)
+
+pub returns-clause-once : goal.returns-clause-once
+returns-clause-once g c = each_once _ (g.C.Coding.lawful c.args.coding.now)
