@@ -4,8 +4,8 @@ use Rattle.spelling.specs.declared.command.Command.{Command}
 use Rattle.spelling.specs.declared.command.Part.{Part as PartT}
 use Rattle.spelling.specs.declared.fault.Fault.{Fault}
 use Rattle.spelling.specs.declared.fault.Reason.TheVariants.{NoByte}
-use Rattle.spelling.specs.Commands.{part_operands}
-use Rattle.spelling.specs.Turns.{ask, command_at, number, operand, part_fault}
+use Rattle.spelling.specs.Commands.{part_operands, number}
+use Rattle.spelling.specs.Turns.{ask, command_at, operand, part_fault}
 use Rattle.draft.specs.declared.cursor.Cursor.{Cursor}
 
 -- Is there a byte, and is it a command letter?

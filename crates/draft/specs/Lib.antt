@@ -1,4 +1,3 @@
 pub mod Cursors
 pub mod Founds
 pub mod Readers
-pub mod Reads

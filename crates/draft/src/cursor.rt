@@ -1,6 +1,7 @@
 // Going over the bytes of a draft.
 ghost use Rattle.std.specs.Prelude.{◌≡◌, ◌+◌, ◌==◌, ◌<◌, ◌≤◌, length, Ok as Yes};
-ghost use Rattle.spelling.specs.Turns.{ask, number};
+ghost use Rattle.spelling.specs.Commands.{number};
+ghost use Rattle.spelling.specs.Turns.{ask};
 
 use spelling::command::Command;
 use spelling::fault::{Fault, Reason};

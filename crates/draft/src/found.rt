@@ -1,9 +1,8 @@
 // What was found of a draft so far.
 ghost use Rattle.std.specs.Prelude.{◌≡◌, ◌+◌, ◌<◌, ◌≤◌, length, true, false, nat_lt, slice_index_or, slice_set, unwrap_or, ◌⊎◌, OnSome, IfSome, IfNone, OnOk, OnErr, if◌then◌else◌, Some as Given, None as Missing};
-ghost use Rattle.spelling.specs.Commands.{index_of, place_of, part_operands, has_use};
-ghost use Rattle.spelling.specs.Spelling.{after_width};
-ghost use Rattle.spelling.specs.Steps.{found};
-ghost use Rattle.spelling.specs.Turns.{order_size, complete};
+ghost use Rattle.spelling.specs.Commands.{index_of, place_of, part_operands, has_use, order_size};
+ghost use Rattle.spelling.specs.Steps.{after_width, found};
+ghost use Rattle.spelling.specs.Turns.{complete};
 ghost use Rattle.spelling.specs.declared.command.Command.TheVariants.{Part as PartCommand};
 ghost use Rattle.spelling.specs.declared.command.Part.TheVariants.{C0 as PartC0, Order as PartOrder};
 

@@ -7,17 +7,18 @@ use Rattle.bits.proofs.Orders.{sound_order}
 use Rattle.spelling.specs.declared.parts.Parts.{Parts}
 use Rattle.spelling.specs.declared.command.Part.{Part as PartT}
 use Rattle.spelling.specs.declared.command.Part.TheVariants.{Flow, C0, C1, Order}
-use Rattle.spelling.specs.Commands.{index_of, place_of, part_operands, wide_place}
-use Rattle.spelling.specs.Turns.{order_size}
+use Rattle.spelling.specs.Commands.{index_of, place_of, part_operands, wide_place, order_size}
 use Rattle.spelling.specs.Sound.{SoundParts}
 use Rattle.spelling.specs.declared.fault.Fault.{Fault}
 use Rattle.spelling.specs.Told.{Told}
-use Rattle.spelling.specs.Spelling.{Item, Right, Has, Holds, Fits, Given, Spells, read_parts}
+use Rattle.spelling.specs.Items.{Item, Right, Fits, Given}
+use Rattle.spelling.specs.Spelling.{Has, Holds, Spells, FirstNo}
 use Rattle.spelling.proofs.Items.{six_cases}
-use Rattle.spelling.proofs.Spelling.{accepted_spells, spells_accepted, fault_first_no}
+use Rattle.spelling.proofs.Running.{read_parts}
+use Rattle.spelling.proofs.Spelling.{Found, found, spells_accepted, fault_refused}
 
 -- the item of a place
-record Found (n : ℕ) (p : Parts) (k : ℕ) : Type 0 where
+record Placed (n : ℕ) (p : Parts) (k : ℕ) : Type 0 where
   part : PartT
   operand : List ℕ
   at : place_of part ≡ k
@@ -25,17 +26,17 @@ record Found (n : ℕ) (p : Parts) (k : ℕ) : Type 0 where
   fits : Fits n part operand
   has : Holds p part operand
 
-found : (n : ℕ) (p : Parts) (k : ℕ) (is : List Item) → Given k is → AllByRecursion (Right n) is → AllByRecursion (Has p) is → Found n p k
-found n p k [] g r h = absurd g
-found n p k (i ∷ is) (inl e) r h = record { part = i.part; operand = i.operand; at = e; long = r.0.long; fits = r.0.fits; has = h.0 }
-found n p k (i ∷ is) (inr g) r h = found n p k is g r.1 h.1
+placed : (n : ℕ) (p : Parts) (k : ℕ) (is : List Item) → Given k is → AllByRecursion (Right n) is → AllByRecursion (Has p) is → Placed n p k
+placed n p k [] g r h = absurd g
+placed n p k (i ∷ is) (inl e) r h = record { part = i.part; operand = i.operand; at = e; long = r.0.long; fits = r.0.fits; has = h.0 }
+placed n p k (i ∷ is) (inr g) r h = placed n p k is g r.1 h.1
 
 -- an order's list
 record Listed (n : ℕ) (p : Parts) (j : ℕ) : Type 0 where
   long : length (get_or p.orders j []) ≡ 64
   sound : Sound (order_size n j) (get_or p.orders j [])
 
-listed : (n : ℕ) (p : Parts) (j : ℕ) → Found n p (3 + j) → Listed n p j
+listed : (n : ℕ) (p : Parts) (j : ℕ) → Placed n p (3 + j) → Listed n p j
 listed n p j f = go f.part f.at f.long f.fits f.has
   where
     go : (q : PartT) → place_of q ≡ 3 + j → length f.operand ≡ part_operands q → Fits n q f.operand → Holds p q f.operand → Listed n p j
@@ -47,7 +48,7 @@ listed n p j f = go f.part f.at f.long f.fits f.has
         let there : get_or p.orders j [] ≡ f.operand = ap (λ z. get_or p.orders z []) (sym same) ∙ has in
         record { long = ap length there ∙ long; sound = rw there (subst (λ z. Sound (order_size n z) f.operand) same fits) }
 
-constant : (n : ℕ) (p : Parts) → Found n p 1 → p.c0 < 2 ^ n
+constant : (n : ℕ) (p : Parts) → Placed n p 1 → p.c0 < 2 ^ n
 constant n p f = go f.part f.at f.fits f.has
   where
     go : (q : PartT) → place_of q ≡ 1 → Fits n q f.operand → Holds p q f.operand → p.c0 < 2 ^ n
@@ -85,8 +86,8 @@ spells_sound bytes p s =
     ordered : (m j : ℕ) → m ≤ 64 → length (get_or p.orders j []) ≡ 64 → Sound m (get_or p.orders j []) → IsOrder m (take m (get_or p.orders j []))
     ordered m j fits long sound = sound_order m (get_or p.orders j []) (omega arith) sound
 
-    at : (k : ℕ) → k < 9 → (wide_place k ≡ true → 32 < n) → Found n p k
-    at k few wide = found n p k s.items (s.all k (few, wide)) s.right s.has
+    at : (k : ℕ) → k < 9 → (wide_place k ≡ true → 32 < n) → Placed n p k
+    at k few wide = placed n p k s.items (s.all k (few, wide)) s.right s.has
 
     low : (j : ℕ) → j < 4 → wide_place (3 + j) ≡ false → Listed n p j
     low j small narrow = listed n p j (at (3 + j) (omega arith) (λ e. cc))
@@ -104,9 +105,23 @@ spells_sound bytes p s =
 
 -- what an answer of the reader tells
 pub told : (bytes : List ℕ) (r : Result Parts Fault) → r ≡ read_parts bytes → Told bytes r
-told bytes (Ok p) e = let s = accepted_spells (length bytes + 1) bytes p (sym e) in (s, spells_sound bytes p s)
-told bytes (Err f) e = (
-  fault_first_no (length bytes + 1) bytes f (omega arith) (sym e),
-  λ p s. let bad : ◌≡◌ {A = Result Parts Fault} (Err f) (Ok p) = e ∙ spells_accepted bytes p s (length bytes + 1) (omega arith) in
-      cc,
-)
+told bytes r e = go r e (subst (Found bytes) (sym e) (found (length bytes + 1) bytes (omega arith)))
+  where
+    spelt : (p : Parts) → Spells bytes p → read_parts bytes ≡ Ok p
+    spelt p s = spells_accepted bytes p s (length bytes + 1) (omega arith)
+
+    faulty : (f : Fault) → FirstNo bytes f → read_parts bytes ≡ Err f
+    faulty f n = fault_refused bytes f n (length bytes + 1) (omega arith)
+
+    go : (x : Result Parts Fault) → x ≡ read_parts bytes → Found bytes x → Told bytes x
+    go (Ok p) is s = record {
+      spells = s;
+      sound = spells_sound bytes p s;
+      only = λ q other. let m : ◌≡◌ {A = Result Parts Fault} (Ok p) (Ok q) = is ∙ spelt q other in cc;
+      faultless = λ f n. let m : ◌≡◌ {A = Result Parts Fault} (Ok p) (Err f) = is ∙ faulty f n in cc;
+    }
+    go (Err f) is n = record {
+      first = n;
+      only = λ g other. let m : ◌≡◌ {A = Result Parts Fault} (Err f) (Err g) = is ∙ faulty g other in cc;
+      unspelt = λ p s. let m : ◌≡◌ {A = Result Parts Fault} (Err f) (Ok p) = is ∙ spelt p s in cc;
+    }

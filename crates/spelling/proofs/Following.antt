@@ -3,22 +3,23 @@ use Rattle.std.proofs.Common.{◌≡◌, ℕ, zero, suc, ◌+◌, ◌<◌, ◌�
 use Rattle.std.specs.List.{AllByRecursion}
 use Rattle.std.proofs.lemmas.List.{append-nil, append_assoc, length-append, length-set, get_or-set_same, get_or-set_other, get_or_at, drop_at, drop-drop, take_at, drop_more, take-append-drop, length-take-le, length-drop}
 use Rattle.std.proofs.ByRecursion.{All-push}
-use Rattle.std.proofs.lemmas.Bool.{and_parts, and_from, not-true, not_from_false, lt-ltb, cases_Bool, eqb-true, both_ways, cases_eq}
+use Rattle.std.proofs.lemmas.Bool.{and_from, not_from_false, false_from_ne_true, lt-ltb, cases_eq}
 use Rattle.spelling.specs.declared.parts.Parts.{Parts}
 use Rattle.spelling.specs.declared.command.Part.{Part as PartT}
 use Rattle.spelling.specs.declared.command.Part.TheVariants.{Flow, C0, C1, Order}
 use Rattle.spelling.specs.declared.command.Command.{Command}
-use Rattle.spelling.specs.declared.command.Command.TheVariants.{Width, Part, End}
+use Rattle.spelling.specs.declared.command.Command.TheVariants.{Part}
 use Rattle.spelling.specs.declared.fault.Fault.{Fault}
 use Rattle.spelling.specs.declared.fault.Reason.{Reason}
 use Rattle.spelling.specs.Reading.{Reading, Turn, More}
-use Rattle.spelling.specs.Commands.{command_of, index_of, place_of, part_operands, operands_of, has_use}
-use Rattle.spelling.specs.Turns.{operand, part_fault, put_part, turn}
-use Rattle.spelling.specs.Steps.{noted}
-use Rattle.spelling.specs.Spelling.{Item, letter_of, written, Right, New, Once, Given, Holds, Has, Before, after_width, after_items}
-use Rattle.spelling.proofs.Turning.{Asked, asked}
-use Rattle.spelling.proofs.Advancing.{Grown, grown, not_end, same_width}
-use Rattle.spelling.proofs.Items.{letter_is, letter_means, index_small, place_small, fits_from_none, none_from_fits, new_from, not_given, given_push, given_left, given_last, once_push}
+use Rattle.spelling.specs.Commands.{command_of, index_of, letter_of, place_of, part_operands, operands_of, has_use}
+use Rattle.spelling.specs.Turns.{in_sequence, operand, part_fault, put_part, turn}
+use Rattle.spelling.specs.Steps.{noted, after_width}
+use Rattle.spelling.specs.Items.{Item, written, Right, New, Once, Given}
+use Rattle.spelling.specs.Spelling.{Holds, Has}
+use Rattle.spelling.proofs.Turning.{Asked}
+use Rattle.spelling.proofs.Advancing.{same_width}
+use Rattle.spelling.proofs.Items.{letter_means, index_small, place_small, none_from_fits, not_given, given_push, given_left, given_last, once_push}
 
 -- What a part does to the parts before it.
 record Put (p : PartT) (os : List ℕ) (a : Parts) : Type 0 where
@@ -57,10 +58,6 @@ next_of s i = noted s i.part (put_part i.part i.operand s.parts)
 pub written_push : (is : List Item) (i : Item) → written (is ++ (i ∷ [])) ≡ written is ++ (letter_of i.part ∷ i.operand)
 written_push [] i = append-nil (letter_of i.part ∷ i.operand)
 written_push (j ∷ is) i = rw (written_push is i) (sym (append_assoc (letter_of j.part ∷ j.operand) (written is) (letter_of i.part ∷ i.operand)))
-
-after_push : (s : Reading) (is : List Item) (i : Item) → after_items s (is ++ (i ∷ [])) ≡ next_of (after_items s is) i
-after_push s [] i = refl
-after_push s (j ∷ is) i = after_push (next_of s j) is i
 
 -- What the reading after some items has noted of them.
 pub record Kept (n : ℕ) (is : List Item) (s : Reading) : Type 0 where
@@ -140,15 +137,10 @@ pub record Follows (bytes : List ℕ) (s : Reading) (n : ℕ) (items : List Item
   pub is : bytes ≡ 87 ∷ (n ∷ (written items ++ rest))
   pub right : AllByRecursion (Right n) items
   pub once : Once items
-  pub reading : s ≡ after_items (after_width n) items
   pub kept : Kept n items s
 
-pub before_of : (bytes : List ℕ) (s : Reading) (n : ℕ) (items : List Item) (rest : List ℕ) → Follows bytes s n items rest → Before bytes s
-before_of bytes s n items rest f =
-    record { n = n; least = f.least; most = f.most; items = items; rest = rest; is = f.is; right = f.right; once = f.once; reading = f.reading }
-
 pub follows_width : (bytes : List ℕ) (n : ℕ) (rest : List ℕ) → 24 ≤ n → n ≤ 64 → bytes ≡ 87 ∷ (n ∷ rest) → Follows bytes (after_width n) n [] rest
-follows_width bytes n rest least most e = record { least = least; most = most; is = e; right = tt; once = tt; reading = refl; kept = kept_start n }
+follows_width bytes n rest least most e = record { least = least; most = most; is = e; right = tt; once = tt; kept = kept_start n }
 
 pub follows_more : (bytes : List ℕ) (s : Reading) (n : ℕ) (items : List Item) (i : Item) (more : List ℕ)
     → Follows bytes s n items (letter_of i.part ∷ (i.operand ++ more)) → Right n i → New i.part items → Follows bytes (next_of s i) n (items ++ (i ∷ [])) more
@@ -158,7 +150,6 @@ follows_more bytes s n items i more f right new = record {
   is = f.is ∙ ap (λ x. 87 ∷ (n ∷ x)) again;
   right = All-push (Right n) items i f.right right;
   once = once_push items i f.once new;
-  reading = ap (λ r. next_of r i) f.reading ∙ sym (after_push (after_width n) items i);
   kept = kept_more n items s i f.kept new right.long;
 }
   where
@@ -203,14 +194,19 @@ front_long n items s kept = omega (arith, kept.place)
 abbrev pub at_part : Reading → PartT → List ℕ → Option Reason → Result Turn Fault
 at_part s p os o = elim o [ Some why ↦ Err (record { reason = why; offset = s.at }) | None ↦ Ok (More (noted s p (put_part p os s.parts))) ]
 
+-- a part that is new comes in sequence
+pub new_in : (n : ℕ) (items : List Item) (s : Reading) (p : PartT) → Kept n items s → New p items → in_sequence s (Part p) ≡ true
+new_in n items s p kept new =
+    and_from (ltb 0 s.at) (not (get_or s.given (place_of p) false)) (lt-ltb 0 s.at (omega (arith, kept.place)))
+    (not_from_false (get_or s.given (place_of p) false) (false_from_ne_true (get_or s.given (place_of p) false) (λ e. not_given p items new (kept.marks (place_of p) e))))
+
 -- An item that is right and new is read.
 pub item_read : (bytes : List ℕ) (s : Reading) (n : ℕ) (items : List Item) (i : Item) (more : List ℕ)
     → Follows bytes s n items (letter_of i.part ∷ (i.operand ++ more)) → Right n i → New i.part items → turn bytes s ≡ Ok (More (next_of s i))
 item_read bytes s n items i more f right new = answered bytes s (Part p) (More (next_of s i)) (record {
   byte = omega (arith, whole, length-append os more);
   letter = ap command_of (head_is bytes front rest s.at f.is at_is (letter_of p) (os ++ more) refl) ∙ letter_means (Part p);
-  sequence = and_from (ltb 0 s.at) (not (get_or s.given (place_of p) false)) (lt-ltb 0 s.at (omega (arith, f.kept.place)))
-      (not_from_false (get_or s.given (place_of p) false) (free (cases_Bool (get_or s.given (place_of p) false))));
+  sequence = new_in n items s p f.kept new;
   use_of = ap (λ w. has_use w (Part p)) f.kept.wide ∙ right.useful;
   there = omega (arith, whole, length-append os more, right.long);
   leads = ap (λ x. at_part s p x (part_fault s.parts.width p x)) (operand_is bytes front rest s.at f.is at_is (letter_of p) os more (part_operands p) refl right.long)
@@ -234,54 +230,3 @@ item_read bytes s n items i more f right new = answered bytes s (Part p) (More (
 
     whole : length bytes ≡ s.at + length rest
     whole = rest_long bytes front rest s.at f.is at_is
-
-    free : (get_or s.given (place_of p) false ≡ true) ⊎ (get_or s.given (place_of p) false ≡ false) → get_or s.given (place_of p) false ≡ false
-    free (inl e) = absurd (not_given p items new (f.kept.marks (place_of p) e))
-    free (inr e) = e
-
--- A turn that goes on after some items has read another.
-pub record Another (bytes : List ℕ) (next : Reading) (n : ℕ) (items : List Item) : Type 0 where
-  pub item : Item
-  pub more : List ℕ
-  pub follows : Follows bytes next n (items ++ (item ∷ [])) more
-
-pub another : (bytes : List ℕ) (s : Reading) (n : ℕ) (items : List Item) (rest : List ℕ) (next : Reading)
-    → Follows bytes s n items rest → turn bytes s ≡ Ok (More next) → Another bytes next n items
-another bytes s n items rest next f e = go (asked bytes s (More next) e)
-  where
-    go : (c : Command) × Asked bytes s c (More next) → Another bytes next n items
-    go (Width, a) = absurd (omega (arith, eqb-true s.at 0 a.sequence, f.kept.place))
-    go (End, a) = absurd (not_end bytes s next a.leads)
-    go (Part p, a) = record { item = i; more = more; follows = subst (λ x. Follows bytes x n (items ++ (i ∷ [])) more) (sym g.is) then }
-      where
-        os : List ℕ
-        os = operand bytes s.at (part_operands p)
-
-        more : List ℕ
-        more = drop (part_operands p) (drop (s.at + 1) bytes)
-
-        i : Item
-        i = record { part = p; operand = os }
-
-        g : Grown bytes s p next
-        g = grown bytes s p next a.leads
-
-        at_is : length (front_of n items) ≡ s.at
-        at_is = front_long n items s f.kept
-
-        is : rest ≡ letter_of p ∷ (os ++ more)
-        is = split bytes (front_of n items) rest s.at f.is at_is (part_operands p) a.there ∙ ap (λ l. l ∷ (os ++ more)) (letter_is (get_or bytes s.at 0) (Part p) a.letter)
-
-        right : Right n i
-        right = record {
-          useful = ap (λ w. has_use w (Part p)) (sym f.kept.wide) ∙ a.use_of;
-          long = operand_long bytes (front_of n items) rest s.at f.is at_is (part_operands p) a.there;
-          fits = fits_from_none n p os (ap (λ w. part_fault w p os) (sym f.kept.wide) ∙ g.well);
-        }
-
-        new : New p items
-        new = new_from p items (λ h. both_ways (get_or s.given (place_of p) false)
-            (not-true (get_or s.given (place_of p) false) (and_parts (ltb 0 s.at) (not (get_or s.given (place_of p) false)) a.sequence).1) (f.kept.marked (place_of p) h))
-
-        then : Follows bytes (next_of s i) n (items ++ (i ∷ [])) more
-        then = follows_more bytes s n items i more (subst (Follows bytes s n items) is f) right new

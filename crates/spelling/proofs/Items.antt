@@ -16,26 +16,22 @@ use Rattle.spelling.specs.declared.command.Command.{Command}
 use Rattle.spelling.specs.declared.command.Command.TheVariants.{Width, Part, End}
 use Rattle.spelling.specs.declared.fault.Reason.{Reason}
 use Rattle.spelling.specs.declared.fault.Reason.TheVariants.{TooLarge, NoOrder}
-use Rattle.spelling.specs.Commands.{command_of, index_of, place_of, wide_place}
-use Rattle.spelling.specs.Turns.{number, order_size, first_fault, part_fault}
-use Rattle.spelling.specs.Spelling.{Item, letter_of, Fits, Right, New, Once, Given, Needed, Holds, Has}
+use Rattle.spelling.specs.Commands.{command_of, command_letter, index_of, place_of, wide_place, number, order_size}
+use Rattle.spelling.specs.Turns.{first_fault, part_fault}
+use Rattle.spelling.specs.Items.{Item, Fits, Right, New, Once, Given, Needed}
+use Rattle.spelling.specs.Spelling.{Holds, Has}
 use Rattle.spelling.proofs.Operands.{none_at_fault}
 
 -- Letters.
 
-abbrev pub letter : Command → ℕ
-letter Width = 87
-letter (Part p) = letter_of p
-letter End = 90
-
-named : (l m : ℕ) (c₀ : Command) (d : Option Command) (c : Command) → letter c₀ ≡ m → (d ≡ Some c → l ≡ letter c) → cond (eqb l m) (Some c₀) d ≡ Some c → l ≡ letter c
+named : (l m : ℕ) (c₀ : Command) (d : Option Command) (c : Command) → command_letter c₀ ≡ m → (d ≡ Some c → l ≡ command_letter c) → cond (eqb l m) (Some c₀) d ≡ Some c → l ≡ command_letter c
 named l m c₀ d c is other e = go (eqb l m) refl e
   where
-    go : (b : Bool) → eqb l m ≡ b → cond b (Some c₀) d ≡ Some c → l ≡ letter c
-    go true t f = let a : c₀ ≡ c = cc in eqb-true l m t ∙ (sym is ∙ ap letter a)
+    go : (b : Bool) → eqb l m ≡ b → cond b (Some c₀) d ≡ Some c → l ≡ command_letter c
+    go true t f = let a : c₀ ≡ c = cc in eqb-true l m t ∙ (sym is ∙ ap command_letter a)
     go false t f = other f
 
-pub letter_is : (l : ℕ) (c : Command) → command_of l ≡ Some c → l ≡ letter c
+pub letter_is : (l : ℕ) (c : Command) → command_of l ≡ Some c → l ≡ command_letter c
 letter_is l c e =
     named l 87 Width _ c refl (
     named l 70 (Part (Flow Flex)) _ c refl (
@@ -50,7 +46,7 @@ letter_is l c e =
     named l 53 (Part (Order R5)) _ c refl (
     named l 90 End None c refl (λ f. cc)))))))))))) e
 
-pub letter_means : (c : Command) → command_of (letter c) ≡ Some c
+pub letter_means : (c : Command) → command_of (command_letter c) ≡ Some c
 letter_means Width = refl
 letter_means (Part (Flow Flex)) = refl
 letter_means (Part (Flow Cpa)) = refl
@@ -78,6 +74,16 @@ place_small C0 = omega arith
 place_small C1 = omega arith
 place_small (Order k) = omega (arith, index_small k)
 
+pub letter_of_none : (l : ℕ) → command_of l ≡ None → (c : Command) → command_letter c ≢ l
+letter_of_none l e c x = let d : ◌≡◌ {A = Option Command} None (Some c) = sym e ∙ (sym (ap command_of x) ∙ letter_means c) in cc
+
+pub none_of_letters : (l : ℕ) → ((c : Command) → command_letter c ≢ l) → command_of l ≡ None
+none_of_letters l none = go (command_of l) refl
+  where
+    go : (o : Option Command) → command_of l ≡ o → command_of l ≡ None
+    go None e = e
+    go (Some c) e = absurd (none c (sym (letter_is l c e)))
+
 -- What fits.
 
 none_before : (n : ℕ) (list : List ℕ) (k i : ℕ) → first_fault n list k i ≡ None → (j : ℕ) → i ≤ j → j < i + k → fault_at n list j ≡ false
@@ -94,25 +100,8 @@ none_before n list (suc k) i e j a b = go (fault_at n list i) refl e (cases_eq i
 pub sound_from_none : (n : ℕ) (list : List ℕ) → first_fault n list (length list) 0 ≡ None → Sound n list
 sound_from_none n list e j h = none_before n list (length list) 0 e j (omega arith) (omega arith)
 
-abbrev order_why : Option ℕ → Option Reason
+abbrev pub order_why : Option ℕ → Option Reason
 order_why o = elim o [ None ↦ None | Some p ↦ Some (NoOrder p) ]
-
-order_none : (o : Option ℕ) → order_why o ≡ None → o ≡ None
-order_none None e = refl
-order_none (Some p) e = cc
-
-below_from : (a b : ℕ) → cond (ltb a b) None (Some TooLarge) ≡ None → a < b
-below_from a b e = go (ltb a b) refl e
-  where
-    go : (t : Bool) → ltb a b ≡ t → cond t None (Some TooLarge) ≡ None → a < b
-    go true is f = ltb-true a b is
-    go false is f = cc
-
-pub fits_from_none : (n : ℕ) (p : PartT) (os : List ℕ) → part_fault n p os ≡ None → Fits n p os
-fits_from_none n (Flow f) os e = tt
-fits_from_none n C0 os e = below_from (number os) (2 ^ n) e
-fits_from_none n C1 os e = tt
-fits_from_none n (Order k) os e = sound_from_none (order_size n (index_of k)) os (order_none (first_fault (order_size n (index_of k)) os (length os) 0) e)
 
 pub none_from_fits : (n : ℕ) (p : PartT) (os : List ℕ) → Fits n p os → part_fault n p os ≡ None
 none_from_fits n (Flow f) os h = refl
@@ -122,9 +111,14 @@ none_from_fits n (Order k) os h = ap order_why (sym (none_at_fault (order_size n
 
 -- Which places are given.
 
-pub new_from : (p : PartT) (is : List Item) → (Given (place_of p) is → ⊥) → New p is
-new_from p [] nil = tt
-new_from p (i ∷ is) nil = ((λ e. nil (inl e)), new_from p is (λ g. nil (inr g)))
+pub new_or_given : (p : PartT) (is : List Item) → New p is ⊎ Given (place_of p) is
+new_or_given p [] = inl tt
+new_or_given p (i ∷ is) = go (cases_eq (place_of i.part) (place_of p)) (new_or_given p is)
+  where
+    go : (place_of i.part ≡ place_of p) ⊎ (place_of i.part ≡ place_of p → ⊥) → New p is ⊎ Given (place_of p) is → New p (i ∷ is) ⊎ Given (place_of p) (i ∷ is)
+    go (inl e) either = inr (inl e)
+    go (inr ne) (inl new) = inl (ne, new)
+    go (inr ne) (inr g) = inr (inr g)
 
 pub not_given : (p : PartT) (is : List Item) → New p is → Given (place_of p) is → ⊥
 not_given p [] new g = g

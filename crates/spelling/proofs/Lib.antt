@@ -1,11 +1,11 @@
 pub mod Operands
 pub mod Turning
-pub mod Refusing
 pub mod Advancing
 pub mod Items
 pub mod Following
 pub mod Running
 pub mod Ends
+pub mod Refusing
 pub mod Spelling
 pub mod Accepted
 pub mod Looping

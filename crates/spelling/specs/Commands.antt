@@ -1,5 +1,6 @@
 -- The commands of a draft: their letters, the bytes of their operands, and which widths have a use for them.
-use Rattle.std.specs.Prelude.{◌≡◌, ℕ, ◌+◌, Bool, true, cond, ◌||◌, Some, None, Option, Result, MatchResult, ◌==◌, nat_lt}
+use Rattle.std.specs.Prelude.{◌≡◌, ℕ, ◌+◌, Bool, true, cond, ◌||◌, List, Some, None, Option, Result, MatchResult, ◌==◌, nat_lt}
+use Rattle.std.specs.Simd.Lanes.{number_l}
 use Rattle.spelling.specs.declared.parts.Flow.TheVariants.{Flex, Cpa}
 use Rattle.spelling.specs.declared.command.OrderName.{OrderName}
 use Rattle.spelling.specs.declared.command.OrderName.TheVariants.{R0, R1, R2, R3, R4, R5}
@@ -38,6 +39,18 @@ index_of R3 = 3
 index_of R4 = 4
 index_of R5 = 5
 
+abbrev pub letter_of : PartT → ℕ
+letter_of (Flow Flex) = 70
+letter_of (Flow Cpa) = 80
+letter_of C0 = 65
+letter_of C1 = 66
+letter_of (Order k) = 48 + index_of k
+
+abbrev pub command_letter : Command → ℕ
+command_letter Width = 87
+command_letter (Part p) = letter_of p
+command_letter End = 90
+
 -- Each part's place among the nine; F and P count as one.
 abbrev pub place_of : PartT → ℕ
 place_of (Flow f) = 0
@@ -55,6 +68,14 @@ abbrev pub operands_of : Command → ℕ
 operands_of Width = 1
 operands_of (Part p) = part_operands p
 operands_of End = 0
+
+-- An operand's bytes as a number, the lowest first.
+abbrev pub number : List ℕ → ℕ
+number bs = number_l 256 bs
+
+-- The orders 4 and 5 have the size 64, the others that of the width.
+abbrev pub order_size : ℕ → ℕ → ℕ
+order_size n k = cond (nat_lt k 4) n 64
 
 -- The places of C1 and the orders 4 and 5, which are for widths above 32; everything else is for all.
 abbrev pub wide_place : ℕ → Bool

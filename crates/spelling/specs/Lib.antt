@@ -1,10 +1,11 @@
 pub mod Commands
 pub mod Faults
 pub mod Flows
-pub mod Reading
-pub mod Turns
-pub mod Answered
-pub mod Steps
+pub mod Items
+pub mod Faulty
 pub mod Spelling
 pub mod Sound
 pub mod Told
+pub mod Reading
+pub mod Turns
+pub mod Steps

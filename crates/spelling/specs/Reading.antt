@@ -1,4 +1,4 @@
--- How far a draft has been read.
+-- The code's own steps: how far a draft has been read.
 use Rattle.std.specs.Prelude.{ℕ, Bool, List}
 use Rattle.spelling.specs.declared.parts.Parts.{Parts}
 

@@ -1,6 +1,6 @@
--- One command of a draft: the questions in their sequence, of which the first no decides, and what it leads to.
+-- The code's own steps: one command of a draft, the questions in their sequence, of which the first no decides, and what it
+-- leads to.
 use Rattle.std.specs.Prelude.{ℕ, zero, suc, ◌+◌, ◌^◌, ◌<◌, ◌≤◌, Bool, true, false, cond, not, ◌&&◌, ◌||◌, List, length, take, drop, replicate, Some, None, Ok, Err, Option, Result, ◌==◌, nat_le, nat_lt, slice_index, slice_index_or, slice_set}
-use Rattle.std.specs.Simd.Lanes.{number_l}
 use Rattle.bits.specs.Orders.{fault_at}
 use Rattle.spelling.specs.declared.parts.Flow.TheVariants.{Flex}
 use Rattle.spelling.specs.declared.parts.Parts.{Parts}
@@ -12,7 +12,7 @@ use Rattle.spelling.specs.declared.fault.Fault.{Fault}
 use Rattle.spelling.specs.declared.fault.Reason.{Reason}
 use Rattle.spelling.specs.declared.fault.Reason.TheVariants.{NoByte, NoCommand, OutOfSequence, NoUse, BadWidth, TooLarge, NoOrder, Missing, GoesOn}
 use Rattle.spelling.specs.Reading.{Reading, Turn, More, Done}
-use Rattle.spelling.specs.Commands.{command_of, index_of, place_of, operands_of, part_operands, has_use}
+use Rattle.spelling.specs.Commands.{command_of, index_of, place_of, operands_of, part_operands, has_use, number, order_size}
 
 -- A question: where the answer is no, the fault; where it is yes, what comes next.
 abbrev pub ask : {X : Type 0} → Bool → Reason → ℕ → Result X Fault → Result X Fault
@@ -35,14 +35,6 @@ in_sequence s End = nat_lt 0 s.at
 -- The bytes of the operand of a command at an offset.
 abbrev pub operand : List ℕ → ℕ → ℕ → List ℕ
 operand bytes at k = take k (drop (at + 1) bytes)
-
--- An operand's bytes as a number, the lowest first.
-abbrev pub number : List ℕ → ℕ
-number bs = number_l 256 bs
-
--- The orders 4 and 5 have the size 64, the others that of the width.
-abbrev pub order_size : ℕ → ℕ → ℕ
-order_size n k = cond (nat_lt k 4) n 64
 
 -- The first place from i on, of k, at which a list is no order of a size.
 unfoldable pub first_fault : ℕ → List ℕ → ℕ → ℕ → Option ℕ

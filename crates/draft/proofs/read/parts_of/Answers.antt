@@ -17,7 +17,7 @@ pub returns-in_err-reader : goal.returns-in_err-reader
 returns-in_err-reader c =
     let p = err_from_is_err_and c.from_residual.result c.from_residual.ensures.1 in
     let e = kept_fault c.args.bytes.now start _ (kept_start c.args.bytes.now start refl) (sym c.in_err-reader.ensures.leads) in
-    rw (p.1, p.2) (record { is = e; told = told c.args.bytes.now _ e })
+    rw (p.1, p.2) (told c.args.bytes.now _ e)
 
 pub loop-parts-init : goal.loop-parts-init
 loop-parts-init c = record {
@@ -30,14 +30,14 @@ returns-in_err-parts c =
     let p = err_from_is_err_and c.from_residual-in_err-parts.result c.from_residual-in_err-parts.ensures.1 in
     let t = turned c.args.bytes.now _ (reading_of c.loop-parts.reader) _ c.loop-parts.invariant.of c.in_err-parts.ensures.leads in
     let e = kept_fault c.args.bytes.now _ _ c.loop-parts.invariant.kept t in
-    rw (p.1, p.2) (record { is = e; told = told c.args.bytes.now _ e })
+    rw (p.1, p.2) (told c.args.bytes.now _ e)
 
 pub returns-in-Some : goal.returns-in-Some
 returns-in-Some c =
     let l = ap (λ o. led (Ok o) (reading_of c.turn.new.self)) (sym c.in-Some.is) ∙ c.in_ok-parts.ensures.leads in
     let t = turned c.args.bytes.now _ (reading_of c.loop-parts.reader) _ c.loop-parts.invariant.of l in
     let e = kept_done c.args.bytes.now _ _ c.loop-parts.invariant.kept t in
-    record { is = e; told = told c.args.bytes.now _ e }
+    told c.args.bytes.now _ e
 
 pub loop-parts-smaller : goal.loop-parts-smaller
 loop-parts-smaller c =
