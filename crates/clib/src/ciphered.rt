@@ -20,8 +20,8 @@ pub(crate) fn code_all(draft: &[u8], key: &[u8], numbers: &mut [u64]) -> Result<
 pub(crate) fn turn_all_back(draft: &[u8], key: &[u8], numbers: &mut [u64]) -> Result<(), Refused>
     ensures { MatchResult result (λ _. AllBack draft.now key.now numbers.old numbers.new) (λ e. Unwritten draft.now key.now numbers.old numbers.new e) }
 {
-    let cipher = cipher_of(draft, key)?;
-    through(&Turned::new(&cipher), numbers)
+    let turned = Turned::new(cipher_of(draft, key)?);
+    through(&turned, numbers)
 }
 
 // All numbers are asked for their top before the first is coded.

@@ -3,22 +3,28 @@ use Rattle.std.specs.Prelude.{◌≡◌, ℕ, List, ◌++◌, Option, Some, code
 use Rattle.std.specs.Fmt.{decimal, ◌++?◌}
 use Rattle.keys.specs.Asking.{asked}
 use Rattle.keys.specs.Refusal.{number_of, words_of}
-use Rattle.kcipher.specs.Making.{IsCipher}
+use Rattle.kcipher.specs.Ciphers.{cipher_means}
+use Rattle.kcipher.specs.Making.{Accepted}
 use Rattle.kcipher.specs.declared.bytes.NoCipher.{NoCipher}
 use Rattle.kcipher.specs.declared.bytes.NoCipher.TheVariants.{Draft, Key}
+use Rattle.kcipher.specs.declared.cipher.KCipher.{KCipher}
 use Rattle.meanings.specs.Meaning.{Meaning}
 use Rattle.spelling.specs.Spelling.{Spells, FirstNo}
 use Rattle.spelling.specs.Told.{Unspelt}
 use Rattle.spelling.specs.declared.fault.Fault.{Fault}
 use Rattle.spelling.specs.declared.parts.Parts.{Parts}
 
--- A coding that is the published cipher of the draft that the bytes spell and of the key.
-pub record CipherOf (draft key : List ℕ) (m : Meaning) : Type 0 where
+-- The bytes spell a draft, and this is an accepted cipher of it and of the key. The work space is the call's own, and long enough.
+pub record CipherOf (draft key : List ℕ) (c : KCipher) : Type 0 where
   pub parts : Parts
   pub spelt : Spells draft parts
-  pub cipher : IsCipher parts key m
+  pub accepted : Accepted parts key 24 c
 
--- The draft's first fault, or the first no of what is asked of the key.
+-- What an accepted cipher of the bytes means.
+abbrev pub CipherMeans : (draft key : List ℕ) → Meaning → Type 0
+CipherMeans draft key m = (c : KCipher) × CipherOf draft key c × (m ≡ cipher_means c)
+
+-- Why the bytes make no cipher: the draft's first fault; or a draft is spelt, and this is the first no of what is asked of the key.
 abbrev pub NoneBy : List ℕ → List ℕ → NoCipher → Type 0
 NoneBy draft key (Draft fault) = FirstNo draft fault × Unspelt draft
 NoneBy draft key (Key refusal) = (parts : Parts) × Spells draft parts × (asked parts key 24 ≡ Some refusal)

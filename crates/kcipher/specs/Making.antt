@@ -24,6 +24,14 @@ OfDraft p key (Flex b) = (p.flow ≡ FlexFlow) × (numbers b.map.setting ≡ set
 OfDraft p key (Cpa b) =
     (p.flow ≡ CpaFlow) × (numbers b.map.setting ≡ setting p key) × (b.map.round0 ∷ (b.map.round1 ∷ (b.map.round2 ∷ [])) ≡ random_rows p key)
 
--- The cipher where every question is answered yes, and else the refusal of the first no.
+-- An accepted cipher, made in a work space of so many bytes: all questions were answered yes, so that the key has just the bytes
+-- that its bits fill and no spare bit is set; the coding is the published cipher; and its steps have the flow and the
+-- numbers of the draft and the key.
+pub record Accepted (p : Parts) (key : List ℕ) (room : ℕ) (c : KCipher) : Type 0 where
+  pub yes : asked p key room ≡ None
+  pub cipher : IsCipher p key (cipher_means c)
+  pub of : OfDraft p key c
+
+-- An accepted cipher, or the first question that was answered no.
 abbrev pub Made : Parts → List ℕ → ℕ → Result KCipher KeyRefusal → Type 0
-Made p key room r = MatchResult r (λ c. (asked p key room ≡ None) × IsCipher p key (cipher_means c) × OfDraft p key c) (λ e. asked p key room ≡ Some e)
+Made p key room r = MatchResult r (Accepted p key room) (λ e. asked p key room ≡ Some e)

@@ -1,6 +1,5 @@
 // A cipher from the bytes of its draft and those of its key, as a mill sends them.
 ghost use Rattle.std.specs.Prelude.{◌≡◌, MatchResult};
-ghost use Rattle.kcipher.specs.Ciphers.{cipher_means};
 ghost use Rattle.kcipher.specs.Bytes.{CipherOf, NoneBy, no_cipher_text};
 ghost use Rattle.kcipher.specs.declared.bytes.NoCipher.TheVariants.{Draft as DraftFault, Key as KeyRefused};
 
@@ -20,7 +19,7 @@ pub enum NoCipher {
 
 // The cipher, or why there is none. The key is expanded in a work space of the call's own.
 pub fn cipher_of(draft: &[u8], key: &[u8]) -> Result<KCipher, NoCipher>
-    ensures { MatchResult result (λ c. CipherOf draft.now key.now (cipher_means c)) (λ e. NoneBy draft.now key.now e) }
+    ensures { MatchResult result (CipherOf draft.now key.now) (NoneBy draft.now key.now) }
 {
     let draft = read(draft)?;
     Ok(make(&draft, key, &mut [0; 24])?)
