@@ -9,25 +9,25 @@ use Rattle.kcipher.specs.declared.bytes.NoCipher.{NoCipher}
 use Rattle.kcipher.specs.declared.bytes.NoCipher.TheVariants.{Draft, Key}
 use Rattle.kcipher.specs.declared.cipher.KCipher.{KCipher}
 use Rattle.meanings.specs.Meaning.{Meaning}
-use Rattle.spelling.specs.Spelling.{Spells, FirstNo}
-use Rattle.spelling.specs.Told.{Unspelt}
+use Rattle.spelling.specs.Told.{TheDraft, TheFault}
 use Rattle.spelling.specs.declared.fault.Fault.{Fault}
 use Rattle.spelling.specs.declared.parts.Parts.{Parts}
 
 -- The bytes spell a draft, and this is an accepted cipher of it and of the key. The work space is the call's own, and long enough.
 pub record CipherOf (draft key : List ℕ) (c : KCipher) : Type 0 where
   pub parts : Parts
-  pub spelt : Spells draft parts
+  pub spelt : TheDraft draft parts
   pub accepted : Accepted parts key 24 c
 
 -- What an accepted cipher of the bytes means.
 abbrev pub CipherMeans : (draft key : List ℕ) → Meaning → Type 0
 CipherMeans draft key m = (c : KCipher) × CipherOf draft key c × (m ≡ cipher_means c)
 
--- Why the bytes make no cipher: the draft's first fault; or a draft is spelt, and this is the first no of what is asked of the key.
+-- Why the bytes make no cipher: the draft's fault, which is the only one; or a draft is spelt, and this is the first no of what is asked of
+-- the key.
 abbrev pub NoneBy : List ℕ → List ℕ → NoCipher → Type 0
-NoneBy draft key (Draft fault) = FirstNo draft fault × Unspelt draft
-NoneBy draft key (Key refusal) = (parts : Parts) × Spells draft parts × (asked parts key 24 ≡ Some refusal)
+NoneBy draft key (Draft fault) = TheFault draft fault
+NoneBy draft key (Key refusal) = (parts : Parts) × TheDraft draft parts × (asked parts key 24 ≡ Some refusal)
 
 -- What it reads as: `refused`, and what the fault reads as, or the refusal's number and words.
 abbrev pub no_cipher_text : (Fault → Option (List ℕ)) → NoCipher → Option (List ℕ)
