@@ -9,3 +9,4 @@ pub mod Refusing
 pub mod Spelling
 pub mod Accepted
 pub mod Looping
+pub mod Shown

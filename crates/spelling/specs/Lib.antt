@@ -1,6 +1,7 @@
 pub mod Commands
 pub mod Faults
 pub mod Flows
+pub mod Shown
 pub mod Items
 pub mod Faulty
 pub mod Spelling

@@ -1,5 +1,6 @@
 // Why bytes are no draft.
 ghost use Rattle.std.specs.Prelude.{◌≡◌, Some as Shown};
+ghost use Rattle.std.specs.Fmt.{styled_text};
 ghost use Rattle.spelling.specs.Faults.{number_of, layer_of, place_in, words_of, name_of, line_of};
 
 use std::fmt;
@@ -26,7 +27,7 @@ pub enum Reason {
     BadWidth,
     // 6: C0 does not fit into the width.
     TooLarge,
-    // 7: the list is no order; its first place that is too large, repeated, or not zero after the size.
+    // 7: the list is no order; with its first place at fault, as `Order::new` finds it.
     NoOrder(usize),
     // 8: something needed has not been given.
     Missing,
@@ -109,6 +110,8 @@ impl Layer {
 
 impl fmt::Display for Layer {
     ghost output = { λ layer. Shown (name_of layer) };
+
+    ghost styled_output = { λ layer style. Shown (styled_text style (name_of layer)) };
 
     fn fmt<W: fmt::Write>(&self, f: &mut fmt::Formatter<W>) -> fmt::Result {
         f.pad(self.name())

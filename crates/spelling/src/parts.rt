@@ -1,5 +1,6 @@
 // What a draft says, as plain data.
-ghost use Rattle.std.specs.Prelude.{Some as Shown, None as Unshown};
+ghost use Rattle.std.specs.Prelude.{◌≡◌, ◌+◌, ◌≤◌, length, nat_lt, take, Some as Shown};
+ghost use Rattle.std.specs.Fmt.{WritesOnOk, styled_text};
 ghost use Rattle.spelling.specs.Flows.{name_of};
 
 use std::fmt;
@@ -13,6 +14,8 @@ pub enum Flow {
 
 impl fmt::Display for Flow {
     ghost output = { λ flow. Shown (name_of flow) };
+
+    ghost styled_output = { λ flow style. Shown (styled_text style (name_of flow)) };
 
     fn fmt<W: fmt::Write>(&self, f: &mut fmt::Formatter<W>) -> fmt::Result {
         f.pad(match self {
@@ -36,37 +39,79 @@ pub struct Parts {
 
 // A line each: width and flow, C0, C1 where the width has a use for it, and each order by the places that count.
 impl fmt::Display for Parts {
-    ghost output = { λ _. Unshown };
+    ghost use Rattle.spelling.specs.Shown.{parts_text};
+
+    ghost output = { λ parts. Shown (parts_text parts) };
 
     fn fmt<W: fmt::Write>(&self, f: &mut fmt::Formatter<W>) -> fmt::Result {
-        let wide = self.width > 32;
         write!(f, "width {}, flow {}", self.width, self.flow)?;
         write!(f, "\nC0 {}", self.c0)?;
-        if wide {
+        self.fmt_c1(f)?;
+        fmt_orders(f, 0, &self.orders[..4], self.width)?;
+        self.fmt_wide_orders(f)
+    }
+}
+
+impl Parts {
+    ghost use Rattle.spelling.specs.Shown.{c1_text, wide_orders_text};
+
+    fn is_wide(&self) -> bool
+        ensures { result ≡ nat_lt 32 self.now.width }
+    {
+        self.width > 32
+    }
+
+    fn fmt_c1<W: fmt::Write>(&self, f: &mut fmt::Formatter<W>) -> fmt::Result
+        ensures { WritesOnOk W.write_str_gives f.old result (c1_text self.now) f.new }
+    {
+        if self.is_wide() {
             write!(f, "\nC1 {}", self.c1)?;
         }
-        // The first four orders are of the width, the others of 64 bits.
-        for (k, list) in self.orders.iter().enumerate().take(4) {
-            fmt_order(f, k, list, self.width)?;
-        }
-        if wide {
-            for (k, list) in self.orders.iter().enumerate().skip(4) {
-                fmt_order(f, k, list, 64)?;
-            }
+        Ok(())
+    }
+
+    // The orders 4 and 5, which are of 64 bits.
+    fn fmt_wide_orders<W: fmt::Write>(&self, f: &mut fmt::Formatter<W>) -> fmt::Result
+        ensures { WritesOnOk W.write_str_gives f.old result (wide_orders_text self.now) f.new }
+    {
+        if self.is_wide() {
+            fmt_orders(f, 4, &self.orders[4..], 64)?;
         }
         Ok(())
     }
 }
 
-fn fmt_order<W: fmt::Write>(
+ghost use Rattle.spelling.specs.Shown.{order_text, orders_text};
+
+fn fmt_orders<W: fmt::Write>(
     f: &mut fmt::Formatter<W>,
-    k: usize,
-    list: &[u8; 64],
+    from: usize,
+    lists: &[[u8; 64]],
     size: u8,
-) -> fmt::Result {
+) -> fmt::Result
+    requires { from + length lists.now ≤ 6 }
+    ensures { WritesOnOk W.write_str_gives f.old result (orders_text from size lists.now) f.new }
+{
+    for (k, list) in lists.iter().enumerate() {
+        fmt_order(f, from + k, used(list, size))?;
+    }
+    Ok(())
+}
+
+#[tactic(auto, using(std::proofs::lemmas::List::take_more, std::proofs::lemmas::List::flat_map_more))]
+fn fmt_order<W: fmt::Write>(f: &mut fmt::Formatter<W>, k: usize, places: &[u8]) -> fmt::Result
+    ensures { WritesOnOk W.write_str_gives f.old result (order_text k places.now) f.new }
+{
     write!(f, "\norder {k}:")?;
-    for place in list.iter().take(size.into()) {
+    for place in places {
         write!(f, " {place}")?;
     }
     Ok(())
+}
+
+// The places of a list that count, all where the size is above 64.
+fn used(list: &[u8; 64], size: u8) -> &[u8]
+    ensures { result.now ≡ take size list.now }
+{
+    list.get(..size.into()).unwrap_or(list)
 }
