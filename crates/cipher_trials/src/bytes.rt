@@ -30,3 +30,45 @@ fn a_key_is_told_by_number_and_words(rt: HostRuntime) -> Result<(), Fail> {
     );
     Ok(())
 }
+
+// One line, which no width fills up.
+#[test]
+fn why_there_is_no_cipher_is_one_line(rt: HostRuntime) -> Result<(), Fail> {
+    let heap = rt.alloc();
+    let last_place = Fault {
+        reason: Reason::NoOrder(63),
+        offset: usize::MAX,
+    };
+    let no_byte = Fault {
+        reason: Reason::NoByte,
+        offset: 0,
+    };
+    let table = [
+        (
+            NoCipher::Draft(last_place),
+            "refused 7 offset 18446744073709551615 layer orders place 63: the list is no order",
+        ),
+        (
+            NoCipher::Draft(no_byte),
+            "refused 1 offset 0 layer bytes: the draft ends too early",
+        ),
+        (
+            NoCipher::Key(KeyRefusal::ShortWorkSpace),
+            "refused 10: the work space has fewer than 24 bytes",
+        ),
+        (
+            NoCipher::Key(KeyRefusal::WrongLength),
+            "refused 11: the key has not the bytes that its bits fill",
+        ),
+        (
+            NoCipher::Key(KeyRefusal::SpareBits),
+            "refused 12: a spare bit of the key's last byte is not 0",
+        ),
+    ];
+    for (refused, line) in table {
+        assert_eq!(rt; format!(in heap; "{refused}")?.as_str(), line);
+        assert_eq!(rt; format!(in heap; "{refused:#}")?.as_str(), line);
+        assert_eq!(rt; format!(in heap; "{refused:>60}")?.as_str(), line);
+    }
+    Ok(())
+}

@@ -73,3 +73,32 @@ fn each_spare_bit_is_refused(rt: HostRuntime) -> Result<(), Fail> {
     }
     Ok(())
 }
+
+// The words alone, and under a width filled up from the left.
+#[test]
+fn a_refusal_reads_as_its_words(rt: HostRuntime) -> Result<(), Fail> {
+    let heap = rt.alloc();
+    let table = [
+        (
+            KeyRefusal::ShortWorkSpace,
+            "the work space has fewer than 24 bytes",
+            "                      the work space has fewer than 24 bytes",
+        ),
+        (
+            KeyRefusal::WrongLength,
+            "the key has not the bytes that its bits fill",
+            "                the key has not the bytes that its bits fill",
+        ),
+        (
+            KeyRefusal::SpareBits,
+            "a spare bit of the key's last byte is not 0",
+            "                 a spare bit of the key's last byte is not 0",
+        ),
+    ];
+    for (refusal, words, wide) in table {
+        assert_eq!(rt; format!(in heap; "{refusal}")?.as_str(), words);
+        assert_eq!(rt; format!(in heap; "{refusal:#}")?.as_str(), words);
+        assert_eq!(rt; format!(in heap; "{refusal:>60}")?.as_str(), wide);
+    }
+    Ok(())
+}

@@ -3,6 +3,7 @@ pub mod Long
 pub mod Written
 pub mod Refused
 pub mod Building
+pub mod Telling
 pub mod Signs
 pub mod Places
 pub mod Parsed

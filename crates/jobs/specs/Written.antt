@@ -5,9 +5,7 @@ use Rattle.std.specs.declared.vec.Vec.{Vec}
 use Rattle.meanings.specs.Meaning.{Meaning}
 use Rattle.meanings.specs.Layers.{chained, turned, narrowed}
 use Rattle.meanings.specs.Supplied.{clear, plus}
-use Rattle.spelling.specs.Spelling.{Spells}
-use Rattle.spelling.specs.declared.parts.Parts.{Parts}
-use Rattle.kcipher.specs.Making.{IsCipher}
+use Rattle.kcipher.specs.Bytes.{CipherMeans}
 use Rattle.jobs.specs.declared.written.Written.{Written}
 use Rattle.jobs.specs.declared.written.Written.TheVariants.{Clear, Plus, Cipher, Chain', Turned', Narrowed'}
 
@@ -22,15 +20,17 @@ bytes_at files i = elim (slice_get files i) [ Some v ↦ Some v.items | None ↦
 abbrev pub IsPlus : ℕ → ℕ → Meaning → Type 0
 IsPlus t k m = (k ≤ t) × (m ≡ plus t k)
 
--- m is the published cipher of the draft that one file spells, and of the key that another is.
-pub record IsCipherOf (files : Files) (d k : ℕ) (m : Meaning) : Type 0 where
+-- Two files are there, one of a draft and one of a key, and this holds of their bytes.
+pub record OfFiles (files : Files) (d k : ℕ) (P : List ℕ → List ℕ → Type 0) : Type 0 where
   pub draft : List ℕ
   pub key : List ℕ
-  pub parts : Parts
   pub draft_is : bytes_at files d ≡ Some draft
   pub key_is : bytes_at files k ≡ Some key
-  pub spells : Spells draft parts
-  pub cipher : IsCipher parts key m
+  pub bytes : P draft key
+
+-- m is what an accepted cipher of the two files means.
+abbrev pub IsCipherOf : Files → ℕ → ℕ → Meaning → Type 0
+IsCipherOf files d k m = OfFiles files d k (λ draft key. CipherMeans draft key m)
 
 -- A written pile means m.
 abbrev pub Means : Files → Written → Meaning → Type 0

@@ -5,8 +5,14 @@ use crate::parse::parse_written;
 use crate::place::{BadText, HeadWord, Place, Sign, Wrong};
 use crate::row::read_row;
 use crate::unbuilt::Unbuilt;
+use crate::written::Written;
 use book::entry::Entry;
 use codings::coding::Coding;
+use codings::refusal::AboveTop;
+use keys::refusal::KeyRefusal;
+use piles::error::PileError;
+use spelling::fault::{Fault, Reason};
+use std::alloc::{AllocError, Global};
 use std::test::Fail;
 
 fn bad(line: usize, column: usize, wrong: Wrong) -> Option<BadText> {
@@ -182,5 +188,175 @@ fn words(rt: HostRuntime) -> Result<(), Fail> {
         printed.as_str(),
         "13: the constant of a plus is above its top"
     );
+    Ok(())
+}
+
+// A pile of so many layers above one another as text: a coding turned again and again.
+fn tower_text(heap: Global, height: usize) -> Result<String, AllocError> {
+    let mut text = String::new(heap);
+    for _ in 1..height {
+        text.push_str("turned(")?;
+    }
+    text.push_str("plus(9, 4)")?;
+    for _ in 1..height {
+        text.push_str(")")?;
+    }
+    Ok(text)
+}
+
+// The same, written out with no text, over any leaf.
+fn tower(heap: Global, leaf: Written, height: usize) -> Result<Written, AllocError> {
+    let mut written = leaf;
+    for _ in 1..height {
+        written = Written::Turned(Box::new(heap, written)?);
+    }
+    Ok(written)
+}
+
+#[test]
+fn a_pile_as_high_as_text_can_spell(rt: HostRuntime) -> Result<(), Fail> {
+    let heap = rt.alloc();
+    let mut names = Vec::new(heap);
+    let text = tower_text(heap, 1000)?;
+    let written = parse_written(heap, &text, 1, 1, &mut names)?;
+    let built = build(heap, &written, &[])?;
+    assert_eq!(rt; built.pile.height(), 1000);
+    assert_eq!(rt; built.pile.code(4), Ok(0));
+    let text = tower_text(heap, 1001)?;
+    assert_eq!(rt;
+        parse_written(heap, &text, 1, 1, &mut names).err(),
+        bad(1, 7001, Wrong::TooDeep)
+    );
+    Ok(())
+}
+
+// A layer is laid only on what was built: a refused leaf is told, however high the pile would be.
+#[test]
+fn a_pile_too_high(rt: HostRuntime) -> Result<(), Fail> {
+    let heap = rt.alloc();
+    let too_high = Some(Unbuilt::Pile(PileError::TooHigh));
+    let written = tower(heap, Written::Clear(9), 1000)?;
+    assert_eq!(rt; build(heap, &written, &[])?.pile.height(), 1000);
+    let written = Written::Narrowed(Box::new(heap, written)?, 0);
+    assert_eq!(rt; build(heap, &written, &[]).err(), too_high);
+    let written = tower(heap, Written::Plus(3, 4), 1001)?;
+    assert_eq!(rt; build(heap, &written, &[]).err(), Some(Unbuilt::AboveTop));
+    let high = tower(heap, Written::Clear(9), 1000)?;
+    let missing = Written::Cipher(0, 1);
+    let written = Written::Chain(Box::new(heap, high)?, Box::new(heap, missing)?);
+    assert_eq!(rt; build(heap, &written, &[]).err(), Some(Unbuilt::NoFile(0)));
+    let higher = tower(heap, Written::Clear(9), 1001)?;
+    let missing = Written::Cipher(0, 1);
+    let written = Written::Chain(Box::new(heap, higher)?, Box::new(heap, missing)?);
+    assert_eq!(rt; build(heap, &written, &[]).err(), too_high);
+    Ok(())
+}
+
+#[test]
+fn a_pile_narrowed_to_0(rt: HostRuntime) -> Result<(), Fail> {
+    let heap = rt.alloc();
+    let mut names = Vec::new(heap);
+    for text in [
+        "narrowed(plus(9, 4), 0)",
+        "turned(narrowed(narrowed(clear(18446744073709551615), 0), 7))",
+        "narrowed(chain(plus(9, 4), clear(0)), 0)",
+    ] {
+        let written = parse_written(heap, text, 1, 1, &mut names)?;
+        let pile = build(heap, &written, &[])?.pile;
+        assert_eq!(rt; pile.top(), 0);
+        assert_eq!(rt; pile.code(0), Ok(0));
+        assert_eq!(rt; pile.back(0), Ok(0));
+        assert_eq!(rt; pile.code(1), Err(AboveTop));
+        assert_eq!(rt; pile.back(u64::MAX), Err(AboveTop));
+    }
+    Ok(())
+}
+
+// The draft of a Flex cipher of 24 bits, with C0 = 0 and orders that send each bit to itself.
+fn narrowest_draft(heap: Global) -> Result<Vec<u8>, AllocError> {
+    let mut bytes = Vec::new(heap);
+    bytes.extend_from_slice(b"W\x18FA")?;
+    bytes.extend_from_slice(&[0; 8])?;
+    for letter in *b"0123" {
+        bytes.push(letter)?;
+        for place in 0..64u8 {
+            bytes.push(if place < 24 { place } else { 0 })?;
+        }
+    }
+    bytes.push(b'Z')?;
+    Ok(bytes)
+}
+
+fn bytes_of(heap: Global, bytes: &[u8]) -> Result<Vec<u8>, AllocError> {
+    let mut file = Vec::new(heap);
+    file.extend_from_slice(bytes)?;
+    Ok(file)
+}
+
+// The draft's file is asked for before the key's, and both before their bytes are asked.
+#[test]
+fn which_of_two_files_is_told(rt: HostRuntime) -> Result<(), Fail> {
+    let heap = rt.alloc();
+    let spoilt = bytes_of(heap, b"W\x17")?;
+    let short = bytes_of(heap, &[0; 11])?;
+    let files = [
+        spoilt,
+        narrowest_draft(heap)?,
+        short,
+        bytes_of(heap, &[0; 12])?,
+    ];
+    let told = |draft, key| build(heap, &Written::Cipher(draft, key), &files).err();
+    let fault = Fault {
+        reason: Reason::BadWidth,
+        offset: 0,
+    };
+    assert_eq!(rt; told(5, 4), Some(Unbuilt::NoFile(5)));
+    assert_eq!(rt; told(5, 3), Some(Unbuilt::NoFile(5)));
+    assert_eq!(rt; told(0, 4), Some(Unbuilt::NoFile(4)));
+    assert_eq!(rt; told(1, 4), Some(Unbuilt::NoFile(4)));
+    assert_eq!(rt; told(0, 2), Some(Unbuilt::Draft(0, fault)));
+    assert_eq!(rt; told(1, 2), Some(Unbuilt::Key(2, KeyRefusal::WrongLength)));
+    assert_eq!(rt; told(1, 3), None);
+    Ok(())
+}
+
+#[test]
+fn why_a_pile_is_not_built(rt: HostRuntime) -> Result<(), Fail> {
+    let heap = rt.alloc();
+    let fault = Fault {
+        reason: Reason::NoOrder(63),
+        offset: usize::MAX,
+    };
+    let fault_text = "7 offset 18446744073709551615 layer orders place 63: the list is no order";
+    let key_text = "12: a spare bit of the key's last byte is not 0";
+    let cases = [
+        (
+            Unbuilt::AboveTop,
+            "13: the constant of a plus is above its top",
+            "                 13: the constant of a plus is above its top",
+        ),
+        (
+            Unbuilt::NoFile(3),
+            "a file is missing",
+            "                                           a file is missing",
+        ),
+        (Unbuilt::Draft(0, fault), fault_text, fault_text),
+        (Unbuilt::Key(1, KeyRefusal::SpareBits), key_text, key_text),
+        (
+            Unbuilt::Pile(PileError::NoMemory),
+            "there is no memory for another layer",
+            "                        there is no memory for another layer",
+        ),
+        (
+            Unbuilt::Pile(PileError::TooHigh),
+            "a pile has at most 1000 layers above one another",
+            "            a pile has at most 1000 layers above one another",
+        ),
+    ];
+    for (unbuilt, text, wide) in cases {
+        assert_eq!(rt; format!(in heap; "{unbuilt}")?.as_str(), text);
+        assert_eq!(rt; format!(in heap; "{unbuilt:#}")?.as_str(), text);
+        assert_eq!(rt; format!(in heap; "{unbuilt:>60}")?.as_str(), wide);
+    }
     Ok(())
 }

@@ -1,5 +1,7 @@
 // Why a written pile cannot be built.
-ghost use Rattle.std.specs.Prelude.{◌≡◌, None as Unshown};
+ghost use Rattle.std.specs.Prelude.{◌≡◌};
+ghost use Rattle.std.specs.Fmt.{padded};
+ghost use Rattle.jobs.specs.Telling.{unbuilt_text, padded_unbuilt_text};
 ghost use Rattle.jobs.specs.declared.unbuilt.Unbuilt.TheVariants.{Pile as PileRefused};
 
 use keys::refusal::KeyRefusal;
@@ -24,15 +26,17 @@ pub enum Unbuilt {
 }
 
 impl fmt::Display for Unbuilt {
-    ghost output = { λ _. Unshown };
+    ghost output = { unbuilt_text };
+
+    ghost styled_output = { λ e style. padded_unbuilt_text (padded style) e };
 
     fn fmt<W: fmt::Write>(&self, f: &mut fmt::Formatter<W>) -> fmt::Result {
         match self {
             Unbuilt::AboveTop => f.pad("13: the constant of a plus is above its top"),
             Unbuilt::NoFile(_) => f.pad("a file is missing"),
-            Unbuilt::Draft(_, fault) => write!(f, "{fault}"),
+            Unbuilt::Draft(_, fault) => fmt::Display::fmt(fault, f),
             Unbuilt::Key(_, refusal) => write!(f, "{}: {refusal}", refusal.number()),
-            Unbuilt::Pile(error) => write!(f, "{error}"),
+            Unbuilt::Pile(error) => fmt::Display::fmt(error, f),
         }
     }
 }

@@ -114,3 +114,14 @@ fn five_laws(rt: HostRuntime) -> Result<(), Fail> {
     assert_eq!(rt; laws.narrowed_twice.right, Ok(0));
     Ok(())
 }
+
+#[test]
+fn a_refusal_reads_as_its_words(rt: HostRuntime) -> Result<(), Fail> {
+    let heap = rt.alloc();
+    let words = "the number is above the coding's top";
+    let wide = "                        the number is above the coding's top";
+    assert_eq!(rt; format!(in heap; "{AboveTop}")?.as_str(), words);
+    assert_eq!(rt; format!(in heap; "{AboveTop:#}")?.as_str(), words);
+    assert_eq!(rt; format!(in heap; "{AboveTop:>60}")?.as_str(), wide);
+    Ok(())
+}
