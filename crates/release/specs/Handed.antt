@@ -24,5 +24,5 @@ module _ {Y H : Type 0} (y : Y → Meaning) (h : H → Meaning) (codings : Colum
   abbrev pub CallMade : Call → Result Answer Refusal → Release Open → List Row → Type 0
   CallMade call r o' memory' = CallDone o.plain memory (meanings_of y h codings) (asked_of call) r o'.plain memory'
 
-  abbrev pub CallsMade : List Call → List (Result Answer Refusal) → Release Open → List Row → Type 0
-  CallsMade calls told o' memory' = ListDone o.plain memory (meanings_of y h codings) (map asked_of calls) told o'.plain memory'
+  abbrev pub ListMade : List Call → List (Result Answer Refusal) → Release Open → List Row → Type 0
+  ListMade calls told o' memory' = ListDone o.plain memory (meanings_of y h codings) (map asked_of calls) told o'.plain memory'

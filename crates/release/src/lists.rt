@@ -1,6 +1,6 @@
 // Lists of calls on a release, with the whole promise in contract.
-ghost use Rattle.std.specs.Prelude.{◌≡◌, ◌+◌, ◌≤◌, [], map, length, vec_len, vec_capacity, MatchResult};
-ghost use Rattle.release.specs.Handed.{CallsMade};
+ghost use Rattle.std.specs.Prelude.{◌≡◌, ◌+◌, ◌≤◌, [], map, length, vec_len, vec_capacity, IfOk, IfErr, MatchResult};
+ghost use Rattle.release.specs.Handed.{ListMade};
 ghost use Rattle.release.specs.Listed.{asked_of};
 ghost use Rattle.release.specs.Promises.{ListDone, RanFrom, UnopenedBy};
 ghost use Rattle.release.specs.Views.{meanings_of};
@@ -25,7 +25,9 @@ impl Release<Open> {
         codings: &ColumnCodings<Y, H>,
         calls: &[Call<'_>],
     ) -> Result<Vec<Result<Answer, Refusal>>, AllocError>
-        ensures { MatchResult result (λ told. ListDone self.old.plain memory.old (meanings_of Y.means H.means codings.now) (map asked_of calls.now) told.items self.new.plain memory.new) (λ _. (self.new ≡ self.old) × (memory.new ≡ memory.old)) }
+        ensures made { IfOk result (λ told. ListMade Y.means H.means codings.now self.old memory.old
+            calls.now told.items self.new memory.new) }
+        ensures unmade { IfErr result (λ _. (self.new ≡ self.old) × (memory.new ≡ memory.old)) }
     {
         let mut told = Vec::with_capacity(heap, calls.len())?;
         self.call_each(memory, codings, calls, &mut told);
@@ -42,7 +44,8 @@ impl Release<Open> {
     )
         requires none { told.old.items ≡ [] }
         requires room { length calls.now ≤ vec_capacity told.old }
-        ensures { CallsMade Y.means H.means codings.now self.old memory.old calls.now told.new.items self.new memory.new }
+        ensures { ListMade Y.means H.means codings.now self.old memory.old calls.now told.new.items
+            self.new memory.new }
     {
         // A loop: of a chain whose closure changes the release and row memory a proof knows nothing.
         for call in calls {
