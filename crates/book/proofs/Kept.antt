@@ -20,7 +20,7 @@ use Rattle.book.specs.declared.role.Role.{Role}
 use Rattle.book.specs.declared.role.Role.TheVariants.{Yarn, Hands, Clear}
 
 -- two tests joined by "and", of which the second parts agree where the first is true
-and_same : (t x y : Bool) → (t ≡ true → x ≡ y) → (t && x) ≡ (t && y)
+pub and_same : (t x y : Bool) → (t ≡ true → x ≡ y) → (t && x) ≡ (t && y)
 and_same true x y h = h refl
 and_same false x y h = refl
 
@@ -120,7 +120,7 @@ record_yes s ns true h = refl
 record_yes s ns false h = let z : ◌≡◌ {A = ℕ} 0 1 = cc in absurd (omega arith)
 
 -- a row that stands was put, and its book row has the mark
-row_stands_parts : (b : List BookRow) (i : ℕ) → row_stands b i ≡ true → (i - 1 < length b) × ((row_at b i).standing ≡ true)
+pub row_stands_parts : (b : List BookRow) (i : ℕ) → row_stands b i ≡ true → (i - 1 < length b) × ((row_at b i).standing ≡ true)
 row_stands_parts b i h =
     let p = and_parts (ltb 0 i) (leb i (length b) && (row_at b i).standing) h in
     let q = and_parts (leb i (length b)) (row_at b i).standing p.1 in
@@ -284,4 +284,4 @@ module _ (s : Setup) (taken : ℕ) (memory : List Row) (b : List BookRow) (k : K
   tally_kept =
       kept_at s taken memory b k (λ t m. tally_answer s t m ≡ book_tally s b)
       (ask_yes (eqb (length (memory_of s b)) s.records) _ _ (length_asked s b k.fits)
-      ∙ ap (λ n. Ok (record { taken = length b; standing = n })) (count_same s b))
+      ∙ ap (λ n. Ok (length b, n)) (count_same s b))

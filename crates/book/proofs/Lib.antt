@@ -1,4 +1,5 @@
 pub mod Padding
 pub mod Asking
 pub mod Kept
+pub mod Accepted
 pub mod Runs

@@ -12,7 +12,9 @@ use Rattle.book.specs.declared.call.Answer.TheVariants.{Put, Withdrawn, Shown, T
 use Rattle.book.specs.Rows.{Setup, coding_of}
 use Rattle.book.specs.Raw.{show_answer, entry_coding}
 use Rattle.book.specs.Book.{BookRow, row_at, row_stands, entry_number, entry_code, book_show, Keeps}
-use Rattle.book.specs.Runs.{Asked, put, withdraw, show, turn_back, tally, told, State, answer, after, book_answer, book_after, StandingEntry, Promise, RunKept}
+use Rattle.book.specs.Asked.{Asked, put, withdraw, show, turn_back, tally}
+use Rattle.book.specs.Runs.{told, State, answer, after, answers, book_answer, book_after, book_after_all, StandingEntry, Promise, RunKept}
+use Rattle.book.proofs.Accepted.{told_none, told_more}
 use Rattle.book.proofs.Asking.{ask_yes, ask_ok}
 use Rattle.book.proofs.Kept.{within_at, fit_at, put_kept, withdraw_kept, show_kept, turn_back_kept, tally_kept}
 
@@ -74,8 +76,13 @@ module _ (s : Setup) (lawful : (r : Role) → Lawful (coding_of s.codings r)) wh
       shown e here = show_kept s st.taken st.memory b k e ∙ book_shows s b e here
 
   pub run_kept : (st : State) (b : List BookRow) (cs : List Asked) → Keeps s st.taken st.memory b → RunKept s st b cs
-  run_kept st b [] k = record { answered = refl; keeps = k; promise = promise_kept st b k }
+  run_kept st b [] k = record { answered = refl; keeps = k; promise = promise_kept st b k; rows = told_none b }
   run_kept st b (c ∷ cs) k =
       let p = call_kept st b c k in
       let r = run_kept (after s st c) (book_after s b c) cs p.1 in
-      record { answered = cc (p.0, r.answered); keeps = r.keeps; promise = r.promise }
+      record {
+        answered = cc (p.0, r.answered);
+        keeps = r.keeps;
+        promise = r.promise;
+        rows = told_more s b (book_after_all s (book_after s b c) cs) c cs (answer s st c) (answers s (after s st c) cs) p.0 r.rows;
+      }

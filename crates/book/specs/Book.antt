@@ -5,7 +5,6 @@ use Rattle.book.specs.declared.entry.Entry.{Entry}
 use Rattle.book.specs.declared.refusal.Refusal.{Refusal}
 use Rattle.book.specs.declared.refusal.Refusal.TheVariants.{AboveTop, NumberCount, NoPlaceFree, NotStanding, NoSuchColumn}
 use Rattle.book.specs.declared.row.Row.{Row}
-use Rattle.book.specs.declared.tally.Tally.{Tally}
 use Rattle.book.specs.Refusals.{ask}
 use Rattle.book.specs.Raw.{entry_coding}
 use Rattle.book.specs.Rows.{Setup, within, codes, marked, blank}
@@ -64,11 +63,11 @@ module _ (s : Setup) (b : List BookRow) where
       ask (nat_lt e.column (length s.roles)) NoSuchColumn (
       ask (nat_le (entry_code e) (entry_coding s e).top) AboveTop (Ok (entry_number b e))))
 
-  abbrev pub book_tally : Result Tally Refusal
-  book_tally = Ok (record { taken = length b; standing = count_standing b })
+  abbrev pub book_tally : Result (ℕ × ℕ) Refusal
+  book_tally = Ok (length b, count_standing b)
 
--- The book's row memory: where a row stands, its record has its codes, zeros after them and the mark; all
--- else is zero.
+-- The row memory that a book calls for. A standing row's record holds the row's codes, filled up with zeros,
+-- and is marked; the record of a withdrawn row and of a free place is blank.
 abbrev pub record_of : Setup → BookRow → Row
 record_of s r = elim r.standing [ true ↦ marked (codes s.codings s.roles r.numbers) | false ↦ blank ]
 

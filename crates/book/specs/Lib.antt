@@ -3,5 +3,7 @@ pub mod Roles
 pub mod Rows
 pub mod Raw
 pub mod Book
+pub mod Asked
+pub mod Accepted
 pub mod Runs
 pub mod Shown

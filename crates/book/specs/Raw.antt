@@ -7,12 +7,11 @@ use Rattle.book.specs.declared.refusal.Refusal.{Refusal}
 use Rattle.book.specs.declared.refusal.Refusal.TheVariants.{AboveTop, MemoryLength, NumberCount, NoPlaceFree, NotStanding, NoSuchColumn}
 use Rattle.book.specs.declared.role.Role.TheVariants.{Clear}
 use Rattle.book.specs.declared.row.Row.{Row}
-use Rattle.book.specs.declared.tally.Tally.{Tally}
 use Rattle.book.specs.Refusals.{ask}
 use Rattle.book.specs.Rows.{Setup, coding_of, within, codes, marked, blank}
 
--- The record of the row numbered i, and whether that row stands: its number was given out and its record
--- has the mark.
+-- The record of the row numbered i, and whether the row stands. It does where a put has been answered with
+-- i, which the places taken tell, and the mark of that record is set.
 abbrev pub record_at : List Row → ℕ → Row
 record_at memory i = slice_index_or memory (i - 1) blank
 
@@ -65,5 +64,6 @@ module _ (s : Setup) (taken : ℕ) (memory : List Row) where
       ask (nat_lt e.column (length s.roles)) NoSuchColumn (
       ask (nat_le code coding.top) AboveTop (Ok (coding.back code)))))
 
-  abbrev pub tally_answer : Result Tally Refusal
-  tally_answer = ask (length memory == s.records) MemoryLength (Ok (record { taken = taken; standing = count_marks (take taken memory) }))
+  -- the places taken, and the rows standing
+  abbrev pub tally_answer : Result (ℕ × ℕ) Refusal
+  tally_answer = ask (length memory == s.records) MemoryLength (Ok (taken, count_marks (take taken memory)))

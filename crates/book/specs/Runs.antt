@@ -6,17 +6,11 @@ use Rattle.book.specs.declared.refusal.Refusal.{Refusal}
 use Rattle.book.specs.declared.row.Row.{Row}
 use Rattle.book.specs.declared.call.Answer.{Answer}
 use Rattle.book.specs.declared.call.Answer.TheVariants.{Put, Withdrawn, Shown, TurnedBack, Tally}
+use Rattle.book.specs.Asked.{Asked, put, withdraw, show, turn_back, tally}
 use Rattle.book.specs.Rows.{Setup}
 use Rattle.book.specs.Raw.{put_answer, put_memory, put_taken, withdraw_answer, withdraw_memory, show_answer, turn_back_answer, tally_answer, entry_coding}
 use Rattle.book.specs.Book.{BookRow, row_stands, entry_number, count_standing, book_put, after_put, book_withdraw, after_withdraw, book_show, book_turn_back, book_tally, Keeps}
-
--- A call by what it is given.
-pub data Asked : Type 0 where
-  put : List ℕ → Asked
-  withdraw : ℕ → Asked
-  show : Entry → Asked
-  turn_back : Entry → Asked
-  tally : Asked
+use Rattle.book.specs.Accepted.{RowsTold}
 
 -- What a call told, as an answer where it was not refused.
 abbrev pub told : {X : Type 0} → (X → Answer) → Result X Refusal → Result Answer Refusal
@@ -88,14 +82,16 @@ module _ (s : Setup) where
     pub shows : (e : Entry) → StandingEntry b e → show_answer s st.taken st.memory e ≡ Ok ((entry_coding s e).rule (entry_number b e))
     pub turns_back : (e : Entry) → StandingEntry b e → turn_back_answer s st.taken st.memory e ≡ Ok (entry_number b e)
     pub only_standing : (e : Entry) (n : ℕ) → turn_back_answer s st.taken st.memory e ≡ Ok n → StandingEntry b e
-    pub tallies : tally_answer s st.taken st.memory ≡ Ok (record { taken = length b; standing = count_standing b })
+    pub tallies : tally_answer s st.taken st.memory ≡ Ok (length b, count_standing b)
     pub equal_codes : (e f : Entry) (x y : ℕ) → StandingEntry b e → StandingEntry b f → Same (entry_coding s e) (entry_coding s f)
         → show_answer s st.taken st.memory e ≡ Ok x → show_answer s st.taken st.memory f ≡ Ok y
         → (x ≡ y → entry_number b e ≡ entry_number b f) × (entry_number b e ≡ entry_number b f → x ≡ y)
 
   -- After any list of calls on a release that the book b keeps: every answer is the book's, the book after
-  -- the list keeps what is left, and so the promise holds.
+  -- the list keeps what is left, so that the promise holds, and that book's rows are those that the calls and
+  -- their answers tell.
   pub record RunKept (st : State) (b : List BookRow) (cs : List Asked) : Type 0 where
     pub answered : answers st cs ≡ book_answers b cs
     pub keeps : Keeps s (after_all st cs).taken (after_all st cs).memory (book_after_all b cs)
     pub promise : Promise (after_all st cs) (book_after_all b cs)
+    pub rows : RowsTold cs (answers st cs) b (book_after_all b cs)

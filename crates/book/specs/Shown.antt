@@ -6,13 +6,13 @@ use Rattle.book.specs.declared.call.Answer.TheVariants.{Put, Withdrawn, Shown, T
 use Rattle.book.specs.declared.call.Call.{Call}
 use Rattle.book.specs.declared.call.Call.TheVariants.{Put as ToPut, Withdraw, Show, TurnBack, Tally as ToTally}
 use Rattle.book.specs.declared.entry.Entry.{Entry}
-use Rattle.book.specs.declared.tally.Tally.{Tally as Counts}
 
 abbrev pub entry_text : Entry → List ℕ
 entry_text e = codes "row " ++ (decimal e.row ++ (codes " column " ++ decimal e.column))
 
-abbrev pub tally_text : Counts → List ℕ
-tally_text t = decimal t.taken ++ (codes " places taken, " ++ (decimal t.standing ++ codes " rows standing"))
+-- the places taken, and the rows standing
+abbrev pub tally_text : ℕ × ℕ → List ℕ
+tally_text t = decimal t.0 ++ (codes " places taken, " ++ (decimal t.1 ++ codes " rows standing"))
 
 abbrev pub call_text : Call → Option (List ℕ)
 call_text (ToPut numbers) = Some (codes "put ") ++? debug_list (λ n. Some (decimal n)) numbers.now

@@ -3,7 +3,6 @@ ghost use Rattle.std.specs.Prelude.{Some as Written};
 ghost use Rattle.book.specs.Shown.{answer_text, call_text};
 
 use crate::entry::Entry;
-use crate::tally::Tally;
 use std::fmt;
 
 #[derive(Clone, Copy, PartialEq, Eq, Debug)]
@@ -21,14 +20,15 @@ pub enum Call<'a> {
 }
 
 // What a call answers that is not refused.
-#[derive(Clone, Copy, PartialEq, Eq, Debug)]
+#[derive(Drop, PartialEq, Eq, Debug)]
 pub enum Answer {
     // The number of the row that was put.
     Put(usize),
     Withdrawn,
     Shown(u64),
     TurnedBack(u64),
-    Tally(Tally),
+    // The places taken, and the rows standing.
+    Tally((usize, usize)),
 }
 
 impl fmt::Display for Answer {
@@ -40,7 +40,10 @@ impl fmt::Display for Answer {
             Answer::Withdrawn => f.write_str("done"),
             Answer::Shown(code) => write!(f, "code {code}"),
             Answer::TurnedBack(number) => write!(f, "number {number}"),
-            Answer::Tally(tally) => write!(f, "{tally}"),
+            Answer::Tally(tally) => {
+                let (taken, standing) = *tally;
+                write!(f, "{taken} places taken, {standing} rows standing")
+            }
         }
     }
 }

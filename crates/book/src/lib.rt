@@ -7,4 +7,3 @@ pub mod entry;
 pub mod refusal;
 pub mod role;
 pub mod row;
-pub mod tally;

@@ -1,17 +1,21 @@
 -- From what a call answers and leaves by the definition to what every book that keeps the release says of it.
-use Rattle.std.proofs.Common.{◌≡◌, ℕ, List, length, replicate, Ok, Result, sym, ap, ◌∙◌, subst, ◌-◌, arith}
+use Rattle.std.proofs.Common.{◌≡◌, ℕ, List, [], length, replicate, Ok, Result, sym, ap, ◌∙◌, subst, ◌-◌, arith}
 use Rattle.meanings.specs.Meaning.{Lawful}
 use Rattle.book.specs.declared.entry.Entry.{Entry}
 use Rattle.book.specs.declared.refusal.Refusal.{Refusal}
 use Rattle.book.specs.declared.role.Role.{Role}
 use Rattle.book.specs.declared.row.Row.{Row}
-use Rattle.book.specs.declared.tally.Tally.{Tally}
 use Rattle.book.specs.Rows.{ColumnMeanings, coding_of, blank}
 use Rattle.book.specs.Raw.{put_answer, put_memory, put_taken, withdraw_answer, withdraw_memory, show_answer, turn_back_answer, tally_answer}
 use Rattle.book.specs.Book.{after_put, after_withdraw, Keeps}
-use Rattle.book.proofs.Kept.{put_kept, withdraw_kept, show_kept, turn_back_kept, tally_kept}
+use Rattle.book.specs.Asked.{Asked}
+use Rattle.book.specs.Runs.{State, answer, after, book_after}
+use Rattle.book.specs.declared.call.Answer.{Answer}
+use Rattle.book.proofs.Runs.{call_kept, run_kept}
+use Rattle.release.specs.Listed.{state_of}
+use Rattle.book.proofs.Kept.{coding_lawful, put_kept, withdraw_kept, show_kept, turn_back_kept, tally_kept}
 use Rattle.release.specs.Views.{setup_of, plain_setup, with_taken}
-use Rattle.release.specs.Calls.{Allowed, Opened, PutDone, WithdrawDone, ShowDone, TurnBackDone, TallyDone}
+use Rattle.release.specs.Calls.{Allowed, Opened, PutDone, WithdrawDone, ShowDone, TurnBackDone, TallyDone, CallDone}
 use Rattle.release.specs.declared.plain.Plain.{Plain}
 
 -- what the questions of opening allow is open once row memory is zero
@@ -20,20 +24,23 @@ pub opened : (letters : List ℕ) (memory memory' : List Row) (o : Plain)
 opened letters memory memory' o allowed zeroed =
     let fresh = allowed.fresh in
     let free : length memory ≡ o.records - 0 = omega (arith, fresh.0) in
+    let empty : (m : ColumnMeanings) → Keeps (setup_of o m) o.taken memory' [] =
+    λ m. record {
+      places = fresh.1;
+      fits = omega arith;
+      narrow = fresh.2;
+      rows = tt;
+      held = zeroed ∙ ap (λ n. replicate n blank) free;
+    } in
     record {
       answer = allowed.answer;
-      fresh = (
-        fresh.0,
-        fresh.1,
-        zeroed,
-        λ m. record {
-          places = fresh.1;
-          fits = omega arith;
-          narrow = fresh.2;
-          rows = tt;
-          held = zeroed ∙ ap (λ n. replicate n blank) free;
-        },
-      );
+      fresh = record {
+        records = fresh.0;
+        taken = fresh.1;
+        zeroed = zeroed;
+        empty = empty;
+        runs = λ m ly lh cs. run_kept (setup_of o m) (coding_lawful m ly lh) (state_of o memory') [] cs (empty m);
+      };
     }
 
 module _ (o : Plain) (memory : List Row) where
@@ -76,5 +83,20 @@ module _ (o : Plain) (memory : List Row) where
   turn_back_done m lawful e r answer =
       record { answer = answer; book = λ b k. answer ∙ turn_back_kept (setup_of o m) o.taken memory b k lawful e }
 
-  pub tally_done : (r : Result Tally Refusal) → r ≡ tally_answer (plain_setup o) o.taken memory → TallyDone o memory r
+  pub tally_done : (r : Result (ℕ × ℕ) Refusal) → r ≡ tally_answer (plain_setup o) o.taken memory → TallyDone o memory r
   tally_done r answer = record { answer = answer; book = λ m b k. answer ∙ tally_kept (setup_of o m) o.taken memory b k }
+
+  pub call_done : (m : ColumnMeanings) → ((r : Role) → Lawful (coding_of m r)) → (c : Asked) (r : Result Answer Refusal) (o' : Plain) (memory' : List Row)
+      → r ≡ answer (setup_of o m) (state_of o memory) c
+      → state_of o' memory' ≡ after (setup_of o m) (state_of o memory) c
+      → o' ≡ with_taken o o'.taken
+      → CallDone o memory m c r o' memory'
+  call_done m lawful c r o' memory' answered left release =
+      record {
+        answered = answered;
+        left = left;
+        release = release;
+        book = λ b k.
+            let kept = call_kept (setup_of o m) lawful (state_of o memory) b c k in
+            (answered ∙ kept.0, subst (λ (st : State). Keeps (setup_of o m) st.taken st.memory (book_after (setup_of o m) b c)) (sym left) kept.1);
+      }

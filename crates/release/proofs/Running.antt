@@ -8,12 +8,12 @@ use Rattle.book.specs.Rows.{Setup}
 use Rattle.book.specs.Runs.{State, answer, after, answers, after_all}
 use Rattle.release.specs.Listed.{asked_of}
 
--- The calls begin in the state begin, where these answers were told before.
-module _ (s : Setup) (begin : State) (before : List (Result Answer Refusal)) (calls : List Call) where
+-- The calls begin in the state begin.
+module _ (s : Setup) (begin : State) (calls : List Call) where
   -- After j calls the answers so far and those to come are all the answers, and what is to come ends where the
   -- whole list ends.
   pub record Underway (j : ℕ) (st : State) (told : List (Result Answer Refusal)) : Type 0 where
-    pub tells : told ++ answers s st (map asked_of (drop j calls)) ≡ before ++ answers s begin (map asked_of calls)
+    pub tells : told ++ answers s st (map asked_of (drop j calls)) ≡ answers s begin (map asked_of calls)
     pub ends : after_all s st (map asked_of (drop j calls)) ≡ after_all s begin (map asked_of calls)
 
   pub run_goes : (j : ℕ) (st st' : State) (told told' : List (Result Answer Refusal)) (a : Result Answer Refusal) (d : Call) (s' : Setup) → s' ≡ s → j < length calls
@@ -36,7 +36,7 @@ module _ (s : Setup) (begin : State) (before : List (Result Answer Refusal)) (ca
       }
 
   pub run_ends : (j : ℕ) (st : State) (told : List (Result Answer Refusal)) → length calls ≤ j → Underway j st told
-      → (told ≡ before ++ answers s begin (map asked_of calls)) × (st ≡ after_all s begin (map asked_of calls))
+      → (told ≡ answers s begin (map asked_of calls)) × (st ≡ after_all s begin (map asked_of calls))
   run_ends j st told ge u =
       let none = drop_all j calls ge in (
         sym (append-nil told) ∙ sym (ap (λ zs. told ++ answers s st (map asked_of zs)) none) ∙ u.tells,

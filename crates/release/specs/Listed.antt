@@ -3,7 +3,8 @@ use Rattle.std.specs.Prelude.{List}
 use Rattle.book.specs.declared.call.Call.{Call}
 use Rattle.book.specs.declared.call.Call.TheVariants.{Put, Withdraw, Show, TurnBack, Tally}
 use Rattle.book.specs.declared.row.Row.{Row}
-use Rattle.book.specs.Runs.{Asked, put, withdraw, show, turn_back, tally, State}
+use Rattle.book.specs.Asked.{Asked, put, withdraw, show, turn_back, tally}
+use Rattle.book.specs.Runs.{State}
 use Rattle.release.specs.declared.plain.Plain.{Plain}
 
 abbrev pub asked_of : Call → Asked

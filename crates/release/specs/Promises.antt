@@ -5,7 +5,9 @@ use Rattle.book.specs.declared.refusal.Refusal.{Refusal}
 use Rattle.book.specs.declared.row.Row.{Row}
 use Rattle.book.specs.Rows.{ColumnMeanings, Setup}
 use Rattle.book.specs.Book.{BookRow, Keeps}
-use Rattle.book.specs.Runs.{Asked, answers, after_all, book_answers, book_after_all, Promise}
+use Rattle.book.specs.Accepted.{RowsTold}
+use Rattle.book.specs.Asked.{Asked}
+use Rattle.book.specs.Runs.{answers, after_all, book_answers, book_after_all, Promise}
 use Rattle.release.specs.Calls.{open_answer}
 use Rattle.release.specs.Listed.{state_of}
 use Rattle.release.specs.Views.{setup_of, with_taken}
@@ -15,11 +17,12 @@ use Rattle.release.specs.declared.ran.Unopened.TheVariants.{Refused, NoMemory}
 
 -- By a book b that keeps the release when the list begins: every answer is the book's, the book after the list
 -- keeps what is left, so that row memory is the book's, and the promise on standing rows, tallies and equal
--- codes holds.
+-- codes holds. Its rows are the accepted ones, and stand or not, as the calls and their answers alone tell.
 pub record BookKept (s : Setup) (b : List BookRow) (cs : List Asked) (told : List (Result Answer Refusal)) (taken : ℕ) (memory : List Row) : Type 0 where
   pub answers : told ≡ book_answers s b cs
   pub keeps : Keeps s taken memory (book_after_all s b cs)
   pub promise : Promise s (record { taken = taken; memory = memory }) (book_after_all s b cs)
+  pub rows : RowsTold cs told b (book_after_all s b cs)
 
 -- A list of calls on the release o: what it answers and leaves by the definition, whatever row memory holds, and
 -- what every book that keeps the release says of it.

@@ -2,7 +2,7 @@
 ghost use Rattle.std.specs.Prelude.{◌≡◌, length, replicate};
 ghost use Rattle.book.specs.Rows.{blank};
 ghost use Rattle.release.specs.Calls.{Allowed, Opened, PutDone, WithdrawDone, ShowDone, TurnBackDone, TallyDone};
-ghost use Rattle.release.specs.Handed.{plain_of};
+ghost use Rattle.release.specs.Handed.{plain_of, CallMade};
 ghost use Rattle.release.specs.Views.{meanings_of};
 
 use crate::column_codings::ColumnCodings;
@@ -10,10 +10,10 @@ use crate::columns::Columns;
 use crate::plain::Plain;
 use crate::raw::blank_all;
 use crate::states::{Open, Release, Sealed};
+use book::call::{Answer, Call};
 use book::entry::Entry;
 use book::refusal::Refusal;
 use book::row::Row;
-use book::tally::Tally;
 use codings::coding::Coding;
 
 impl Plain {
@@ -42,7 +42,7 @@ impl<S> Release<S> {
     }
 
     // The places taken and the rows standing.
-    pub fn tally(&self, memory: &[Row]) -> Result<Tally, Refusal>
+    pub fn tally(&self, memory: &[Row]) -> Result<(usize, usize), Refusal>
         ensures { TallyDone self.now.plain memory.now result }
     {
         self.plain.count(memory)
@@ -71,7 +71,7 @@ impl Release<Open> {
         self.plain.put_row(memory, codings, numbers)
     }
 
-    // Sets the record of a standing row to zero. Its place is not used again.
+    // Blanks the record of a standing row. No later put takes its place.
     pub fn withdraw(&mut self, memory: &mut [Row], row: usize) -> Result<(), Refusal>
         ensures done { WithdrawDone self.old.plain memory.old row result memory.new }
         ensures release { self.new ≡ self.old }
@@ -89,6 +89,19 @@ impl Release<Open> {
         ensures { TurnBackDone self.now.plain memory.now (meanings_of Y.means H.means codings.now) entry result }
     {
         self.plain.turn_code(memory, codings, entry)
+    }
+
+    // Makes a call, whichever it is.
+    pub fn call<Y: Coding, H: Coding>(
+        &mut self,
+        memory: &mut [Row],
+        codings: &ColumnCodings<Y, H>,
+        call: Call<'_>,
+    ) -> Result<Answer, Refusal>
+        ensures { CallMade Y.means H.means codings.now self.old memory.old call.entry result
+            self.new memory.new }
+    {
+        self.plain.made(memory, codings, call)
     }
 
     // Seals the release: from here on its rows can only be shown and counted.

@@ -7,7 +7,7 @@ use book::role::Role;
 use std::marker::Model;
 
 // One to eight roles, in an array, since a release takes no heap. What stands behind them is clear.
-#[derive(Clone, Copy)]
+#[derive(Drop)]
 pub struct Columns {
     roles: [Role; 8],
     count: usize,

@@ -11,7 +11,6 @@ mod lists;
 pub mod plain;
 pub mod ran;
 mod raw;
-mod run;
 pub mod states;
 
 pub use lists::open_and_call;

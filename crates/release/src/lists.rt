@@ -1,5 +1,6 @@
 // Lists of calls on a release, with the whole promise in contract.
-ghost use Rattle.std.specs.Prelude.{◌≡◌, map, length, MatchResult};
+ghost use Rattle.std.specs.Prelude.{◌≡◌, ◌+◌, ◌≤◌, [], map, length, vec_len, vec_capacity, IfOk, IfErr, MatchResult};
+ghost use Rattle.release.specs.Handed.{ListMade};
 ghost use Rattle.release.specs.Listed.{asked_of};
 ghost use Rattle.release.specs.Promises.{ListDone, RanFrom, UnopenedBy};
 ghost use Rattle.release.specs.Views.{meanings_of};
@@ -24,11 +25,32 @@ impl Release<Open> {
         codings: &ColumnCodings<Y, H>,
         calls: &[Call<'_>],
     ) -> Result<Vec<Result<Answer, Refusal>>, AllocError>
-        ensures { MatchResult result (λ told. ListDone self.old.plain memory.old (meanings_of Y.means H.means codings.now) (map asked_of calls.now) told.items self.new.plain memory.new) (λ _. (self.new ≡ self.old) × (memory.new ≡ memory.old)) }
+        ensures made { IfOk result (λ told. ListMade Y.means H.means codings.now self.old memory.old
+            calls.now told.items self.new memory.new) }
+        ensures unmade { IfErr result (λ _. (self.new ≡ self.old) × (memory.new ≡ memory.old)) }
     {
         let mut told = Vec::with_capacity(heap, calls.len())?;
-        self.plain.make_all(memory, codings, calls, &mut told);
+        self.call_each(memory, codings, calls, &mut told);
         Ok(told)
+    }
+
+    // Makes the calls one after the other, and tells their answers.
+    fn call_each<Y: Coding, H: Coding>(
+        &mut self,
+        memory: &mut [Row],
+        codings: &ColumnCodings<Y, H>,
+        calls: &[Call<'_>],
+        told: &mut Vec<Result<Answer, Refusal>>,
+    )
+        requires none { told.old.items ≡ [] }
+        requires room { length calls.now ≤ vec_capacity told.old }
+        ensures { ListMade Y.means H.means codings.now self.old memory.old calls.now told.new.items
+            self.new memory.new }
+    {
+        // A loop: of a chain whose closure changes the release and row memory a proof knows nothing.
+        for call in calls {
+            told.push_reserved(self.call(memory, codings, *call));
+        }
     }
 }
 
@@ -43,12 +65,10 @@ pub fn open_and_call<Y: Coding, H: Coding>(
 ) -> Result<Ran, Unopened>
     ensures { MatchResult result (λ ran. RanFrom letters.now memory.old (meanings_of Y.means H.means codings.now) (map asked_of calls.now) ran.release.plain ran.answers.items memory.new) (λ e. (memory.new ≡ memory.old) × UnopenedBy letters.now (length memory.old) e) }
 {
-    let mut plain = Plain::allowed(letters, memory.len())?;
+    let plain = Plain::allowed(letters, memory.len())?;
     let mut answers = Vec::with_capacity(heap, calls.len())?;
     blank_all(memory);
-    plain.make_all(memory, codings, calls, &mut answers);
-    Ok(Ran {
-        release: Release { plain, state: Open },
-        answers,
-    })
+    let mut release = Release { plain, state: Open };
+    release.call_each(memory, codings, calls, &mut answers);
+    Ok(Ran { release, answers })
 }

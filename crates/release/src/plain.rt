@@ -2,7 +2,7 @@
 // which asks for its length.
 use crate::columns::Columns;
 
-#[derive(Clone, Copy)]
+#[derive(Drop)]
 pub struct Plain {
     pub(crate) columns: Columns,
     // How many row records it was opened with.

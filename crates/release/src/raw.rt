@@ -3,15 +3,17 @@ ghost use Rattle.std.specs.Prelude.{◌≡◌, ◌≢◌, length, take, replicat
 ghost use Rattle.book.specs.declared.refusal.Refusal.TheVariants.{MemoryLength};
 ghost use Rattle.book.specs.Raw.{put_answer, put_memory, put_taken, withdraw_answer, withdraw_memory, show_answer, turn_back_answer, tally_answer, count_marks};
 ghost use Rattle.book.specs.Rows.{blank};
+ghost use Rattle.book.specs.Runs.{answer, after};
+ghost use Rattle.release.specs.Listed.{asked_of, state_of};
 ghost use Rattle.release.specs.Views.{meanings_of, setup_of, plain_setup, with_taken, Standing, StandingRecord};
 ghost use Rattle.std.specs.Option.{option_map};
 
 use crate::column_codings::ColumnCodings;
 use crate::plain::Plain;
+use book::call::{Answer, Call};
 use book::entry::Entry;
 use book::refusal::Refusal;
 use book::row::Row;
-use book::tally::Tally;
 use codings::coding::Coding;
 
 impl Plain {
@@ -33,7 +35,7 @@ impl Plain {
         &memory[..self.taken.min(memory.len())]
     }
 
-    // The place of the record of this row, where the row stands: its number was given out and its record has the mark.
+    // The place of the record of this row, where the row stands.
     fn standing_place(&self, memory: &[Row], row: usize) -> Option<usize>
         ensures { Standing self.now.taken memory.now row result }
     {
@@ -101,14 +103,11 @@ impl Plain {
         Ok(record.numbers[entry.column])
     }
 
-    pub(crate) fn count(&self, memory: &[Row]) -> Result<Tally, Refusal>
+    pub(crate) fn count(&self, memory: &[Row]) -> Result<(usize, usize), Refusal>
         ensures { result ≡ tally_answer (plain_setup self.now) self.now.taken memory.now }
     {
         self.ask_length(memory)?;
-        Ok(Tally {
-            taken: self.taken,
-            standing: marks(self.given_out(memory)),
-        })
+        Ok((self.taken, marks(self.given_out(memory))))
     }
 
     pub(crate) fn turn_code<Y: Coding, H: Coding>(
@@ -121,6 +120,28 @@ impl Plain {
     {
         let code = self.show_code(memory, entry)?;
         codings.back_in(self.columns.as_slice()[entry.column], code)
+    }
+
+    // One call.
+    pub(crate) fn made<Y: Coding, H: Coding>(
+        &mut self,
+        memory: &mut [Row],
+        codings: &ColumnCodings<Y, H>,
+        call: Call<'_>,
+    ) -> Result<Answer, Refusal>
+        ensures answer { result ≡ answer (setup_of self.old (meanings_of Y.means H.means codings.now)) (state_of self.old memory.old) (asked_of call.entry) }
+        ensures state { state_of self.new memory.new ≡ after (setup_of self.old (meanings_of Y.means H.means codings.now)) (state_of self.old memory.old) (asked_of call.entry) }
+        ensures release { self.new ≡ with_taken self.old self.new.taken }
+    {
+        match call {
+            Call::Put(numbers) => self.put_row(memory, codings, numbers).map(Answer::Put),
+            Call::Withdraw(row) => self.withdraw_row(memory, row).map(|()| Answer::Withdrawn),
+            Call::Show(entry) => self.show_code(memory, entry).map(Answer::Shown),
+            Call::TurnBack(entry) => self
+                .turn_code(memory, codings, entry)
+                .map(Answer::TurnedBack),
+            Call::Tally => self.count(memory).map(Answer::Tally),
+        }
     }
 }
 
@@ -135,5 +156,11 @@ pub(crate) fn blank_all(memory: &mut [Row])
 fn marks(records: &[Row]) -> usize
     ensures { result ≡ count_marks records.now }
 {
-    records.iter().filter(|record| record.standing).count()
+    let mut standing = 0;
+    for record in records {
+        if record.standing {
+            standing += 1;
+        }
+    }
+    standing
 }

@@ -1,8 +1,8 @@
 // Releases, in two states.
 use crate::plain::Plain;
 
-// A release in the state S.
-#[derive(Clone, Copy)]
+// A release in the state S. There is one of it: it is moved, and never copied.
+#[derive(Drop)]
 pub struct Release<S> {
     pub(crate) plain: Plain,
     pub(crate) state: S,
@@ -12,6 +12,6 @@ pub struct Release<S> {
 // an open release cannot be let go.
 pub struct Open;
 
-// Rows can be shown and counted, and nothing else.
-#[derive(Clone, Copy)]
+// Rows can be shown and counted, and nothing else. A sealed release may be let go.
+#[derive(Drop)]
 pub struct Sealed;

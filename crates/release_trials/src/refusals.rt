@@ -41,7 +41,7 @@ fn memory_length(rt: HostRuntime) -> Result<(), Fail> {
     all_refused(&rt, &mut release, &mut more, &with);
     assert_eq!(rt; more[0], standing(first.numbers));
     assert_eq!(rt; more[2], DIRTY);
-    assert_eq!(rt; release.tally(&memory), Ok(tally(1, 1)));
+    assert_eq!(rt; release.tally(&memory), Ok((1, 1)));
     release.scrap(&mut memory);
     Ok(())
 }
@@ -88,13 +88,13 @@ fn putting(rt: HostRuntime) -> Result<(), Fail> {
         memory,
         [standing([2, 6, u64::MAX, 0, 0, 0, 0, 0]), Row::BLANK]
     );
-    assert_eq!(rt; release.tally(&memory), Ok(tally(1, 1)));
+    assert_eq!(rt; release.tally(&memory), Ok((1, 1)));
     assert_eq!(rt; release.put(&mut memory, &with, &[0, 0, 0]), Ok(2));
     assert_eq!(rt;
         release.put(&mut memory, &with, &[0, 0, 0]),
         Err(Refusal::NoPlaceFree)
     );
-    assert_eq!(rt; release.tally(&memory), Ok(tally(2, 2)));
+    assert_eq!(rt; release.tally(&memory), Ok((2, 2)));
     release.scrap(&mut memory);
     Ok(())
 }
@@ -123,7 +123,7 @@ fn rows_that_stand(rt: HostRuntime) -> Result<(), Fail> {
         );
     }
     assert_eq!(rt; memory[1], standing([8, 9, 0, 0, 0, 0, 0, 0]));
-    assert_eq!(rt; release.tally(&memory), Ok(tally(2, 1)));
+    assert_eq!(rt; release.tally(&memory), Ok((2, 1)));
     release.scrap(&mut memory);
     Ok(())
 }

@@ -13,7 +13,7 @@ fn memory_of_an_opening(rt: HostRuntime) -> Result<(), Fail> {
     assert_eq!(rt; memory, [DIRTY; 2]);
     let release = opened(&['C'], &mut memory)?;
     assert_eq!(rt; memory, [Row::BLANK; 2]);
-    assert_eq!(rt; release.tally(&memory), Ok(tally(0, 0)));
+    assert_eq!(rt; release.tally(&memory), Ok((0, 0)));
     release.scrap(&mut memory);
     Ok(())
 }
@@ -32,7 +32,7 @@ fn codes_of_a_row(rt: HostRuntime) -> Result<(), Fail> {
     for column in 0..3usize {
         assert_eq!(rt; release.turn_back(&memory, &with, entry(1, column)), Ok(5));
     }
-    assert_eq!(rt; release.tally(&memory), Ok(tally(1, 1)));
+    assert_eq!(rt; release.tally(&memory), Ok((1, 1)));
     release.scrap(&mut memory);
     Ok(())
 }
@@ -46,7 +46,7 @@ fn withdrawing(rt: HostRuntime) -> Result<(), Fail> {
     assert_eq!(rt; release.put(&mut memory, &with, &[6]), Ok(1));
     assert_eq!(rt; release.withdraw(&mut memory, 1), Ok(()));
     assert_eq!(rt; memory[0], Row::BLANK);
-    assert_eq!(rt; release.tally(&memory), Ok(tally(1, 0)));
+    assert_eq!(rt; release.tally(&memory), Ok((1, 0)));
     assert_eq!(rt; release.put(&mut memory, &with, &[7]), Ok(2));
     assert_eq!(rt; memory, [Row::BLANK, standing([7, 0, 0, 0, 0, 0, 0, 0])]);
     assert_eq!(rt;
@@ -54,7 +54,7 @@ fn withdrawing(rt: HostRuntime) -> Result<(), Fail> {
         Err(Refusal::NoPlaceFree)
     );
     assert_eq!(rt; memory[0], Row::BLANK);
-    assert_eq!(rt; release.tally(&memory), Ok(tally(2, 1)));
+    assert_eq!(rt; release.tally(&memory), Ok((2, 1)));
     release.scrap(&mut memory);
     Ok(())
 }
@@ -72,7 +72,7 @@ fn set_by_hand(rt: HostRuntime) -> Result<(), Fail> {
         Err(Refusal::NotStanding)
     );
     assert_eq!(rt; release.withdraw(&mut memory, 2), Err(Refusal::NotStanding));
-    assert_eq!(rt; release.tally(&memory), Ok(tally(1, 1)));
+    assert_eq!(rt; release.tally(&memory), Ok((1, 1)));
     memory[0].numbers[0] = 10;
     assert_eq!(rt; release.show(&memory, entry(1, 0)), Ok(10));
     assert_eq!(rt;
@@ -97,7 +97,7 @@ fn sealing(rt: HostRuntime) -> Result<(), Fail> {
         release.show(&memory, entry(2, 0)),
         Err(Refusal::NotStanding)
     );
-    assert_eq!(rt; release.tally(&memory), Ok(tally(2, 1)));
+    assert_eq!(rt; release.tally(&memory), Ok((2, 1)));
     let sealed = release.seal();
     assert_eq!(rt; sealed.show(&memory, entry(1, 0)), Ok(8));
     assert_eq!(rt;
@@ -108,7 +108,7 @@ fn sealing(rt: HostRuntime) -> Result<(), Fail> {
         sealed.show(&memory, entry(1, 1)),
         Err(Refusal::NoSuchColumn)
     );
-    assert_eq!(rt; sealed.tally(&memory), Ok(tally(2, 1)));
+    assert_eq!(rt; sealed.tally(&memory), Ok((2, 1)));
     Ok(())
 }
 

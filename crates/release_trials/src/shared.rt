@@ -2,7 +2,6 @@
 use book::entry::Entry;
 use book::refusal::Refusal;
 use book::row::Row;
-use book::tally::Tally;
 use codings::plus::Plus;
 use release::column_codings::ColumnCodings;
 use release::states::{Open, Release};
@@ -25,10 +24,6 @@ pub(crate) fn standing(numbers: [u64; 8]) -> Row {
 
 pub(crate) fn entry(row: usize, column: usize) -> Entry {
     Entry { row, column }
-}
-
-pub(crate) fn tally(taken: usize, standing: usize) -> Tally {
-    Tally { taken, standing }
 }
 
 pub(crate) type Codings = ColumnCodings<Plus, Plus>;

@@ -78,7 +78,7 @@ fn tell_sealed(rt: &impl Print, sealed: &Release<Sealed>, memory: &[Row]) -> io:
         }
     }
     match sealed.tally(memory) {
-        Ok(tally) => println!(rt; "sealed: {tally}"),
+        Ok(tally) => println!(rt; "sealed: {}", Answer::Tally(tally)),
         Err(refusal) => {
             print!(rt; "sealed: tally: ")?;
             tell_refused(rt, refusal)

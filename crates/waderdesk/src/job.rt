@@ -198,11 +198,9 @@ impl Shed<'_> {
     ) -> anyhow::Result<()> {
         let rt = self.rt;
         print!(rt; "{call}: ")?;
-        for answer in release.make_calls(rt.alloc(), memory, &self.codings, &[call])? {
-            match answer {
-                Ok(answer) => println!(rt; "{answer}")?,
-                Err(refusal) => tell_refused(rt, refusal)?,
-            }
+        match release.call(memory, &self.codings, call) {
+            Ok(answer) => println!(rt; "{answer}")?,
+            Err(refusal) => tell_refused(rt, refusal)?,
         }
         Ok(())
     }

@@ -17,12 +17,12 @@ pub fn write_sheet(
 ) -> anyhow::Result<()> {
     let file = fs::create(rt, &folder.path(rt, name)?).context(name)?;
     let mut out = BufWriter::new(rt.alloc(), file)?;
-    let tally = sealed.tally(memory)?;
-    for row in 1..=tally.taken {
+    let (taken, standing) = sealed.tally(memory)?;
+    for row in 1..=taken {
         write_row(&mut out, sealed, memory, row, columns).context(name)?;
     }
     out.flush().context(name)?;
-    println!(rt; "{name}: {} rows written", tally.standing)?;
+    println!(rt; "{name}: {standing} rows written")?;
     Ok(())
 }
 
