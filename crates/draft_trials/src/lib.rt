@@ -4,6 +4,8 @@
 #[cfg(test)]
 mod sample;
 #[cfg(test)]
+mod shown;
+#[cfg(test)]
 mod spoilt;
 #[cfg(test)]
 mod whole;

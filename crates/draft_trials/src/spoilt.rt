@@ -269,27 +269,3 @@ fn numbers_and_layers(rt: HostRuntime) {
         assert_eq!(rt; reason.place(), place);
     }
 }
-
-// What a fault shows: its number, offset and layer, the place where there is one, and the words.
-#[test]
-fn shown_on_one_line(rt: HostRuntime) -> Result<(), Fail> {
-    for (reason, line) in [
-        (
-            Reason::NoCommand,
-            "2 offset 3 layer commands: this is no command letter",
-        ),
-        (
-            Reason::NoByte,
-            "1 offset 3 layer bytes: the draft ends too early",
-        ),
-        (
-            Reason::NoOrder(1),
-            "7 offset 3 layer orders place 1: the list is no order",
-        ),
-    ] {
-        let fault = Fault { reason, offset: 3 };
-        let shown = format!(in rt.alloc(); "{fault}")?;
-        assert_eq!(rt; shown.as_str(), line);
-    }
-    Ok(())
-}

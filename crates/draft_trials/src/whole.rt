@@ -125,31 +125,6 @@ fn one_byte_changed(rt: HostRuntime) -> Result<(), Fail> {
     Ok(())
 }
 
-// What a draft shows: a line each for the width and the flow, C0, C1 where there is one, and each order.
-#[test]
-fn shown_line_by_line(rt: HostRuntime) -> Result<(), Fail> {
-    let narrow = spelt(rt.alloc(), 24, "WPA0123Z")?;
-    let draft = read(narrow.all())?;
-    let mut expected = String::from_str(rt.alloc(), "width 24, flow CPA\nC0 0")?;
-    for k in 0..4u8 {
-        expected.push_str(format!(in rt.alloc(); "\norder {k}:")?.as_str())?;
-        expected.push_str(" 0 1 2 3 4 5 6 7 8 9 10 11 12 13 14 15 16 17 18 19 20 21 22 23")?;
-    }
-    let shown = format!(in rt.alloc(); "{}", draft.parts())?;
-    assert_eq!(rt; shown.as_str(), expected.as_str());
-    let wide = spelt(rt.alloc(), 33, "WFAB012345Z")?;
-    let draft = read(wide.all())?;
-    let shown = format!(in rt.alloc(); "{}", draft.parts())?;
-    assert_eq!(rt; shown.as_str().lines().count(), 9);
-    assert!(rt;
-        shown
-            .as_str()
-            .starts_with("width 33, flow Flex\nC0 0\nC1 0\norder 0: 0 1 2")
-    );
-    assert!(rt; shown.as_str().ends_with(" 60 61 62 63"));
-    Ok(())
-}
-
 // Each part on its own line: constants that differ, and in each list its own number alone. At 32 bits nothing that is for wider
 // ones is shown, and at 33 the orders 4 and 5 are of 64 bits.
 #[test]
@@ -179,13 +154,5 @@ fn each_part_on_its_line(rt: HostRuntime) -> Result<(), Fail> {
         let shown = format!(in rt.alloc(); "{parts}")?;
         assert_eq!(rt; shown.as_str(), expected.as_str());
     }
-    Ok(())
-}
-
-// The name of a flow or a layer keeps to a column where it is given one.
-#[test]
-fn names_in_a_column(rt: HostRuntime) -> Result<(), Fail> {
-    let shown = format!(in rt.alloc(); "{:>5}|{:<7}|", Flow::Cpa, Layer::Bytes)?;
-    assert_eq!(rt; shown.as_str(), "  CPA|bytes  |");
     Ok(())
 }
