@@ -3,3 +3,4 @@ pub mod Wording
 pub mod Reading
 pub mod Rowing
 pub mod Heading
+pub mod OfFiles

@@ -9,9 +9,9 @@ use Rattle.jobs.specs.declared.leaf.Leaf.TheVariants.{Clear, Plus, Cipher}
 abbrev pub leaf_means : Leaf → Meaning
 leaf_means (Clear c) = clear c.top
 leaf_means (Plus p) = plus p.top p.k
-leaf_means (Cipher c) = cipher_means c
+leaf_means (Cipher b) = cipher_means b.value
 
 pub leaf_lawful : (l : Leaf) → Lawful (leaf_means l)
 leaf_lawful (Clear c) = clear_lawful c.top
 leaf_lawful (Plus p) = plus_lawful p.top p.k p.small
-leaf_lawful (Cipher c) = cipher_lawful c
+leaf_lawful (Cipher b) = cipher_lawful b.value

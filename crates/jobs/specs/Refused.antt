@@ -5,7 +5,7 @@ use Rattle.piles.specs.Stacking.{highest}
 use Rattle.piles.specs.declared.error.PileError.TheVariants.{NoMemory, TooHigh}
 use Rattle.kcipher.specs.Bytes.{NoneBy}
 use Rattle.kcipher.specs.declared.bytes.NoCipher.TheVariants.{Draft as DraftFault, Key as KeyRefused}
-use Rattle.jobs.specs.Written.{Files, bytes_at, OfFiles, Means}
+use Rattle.jobs.specs.Written.{Files, bytes_at, OfFiles, IsCipherOf, Means}
 use Rattle.jobs.specs.declared.unbuilt.Unbuilt.{Unbuilt}
 use Rattle.jobs.specs.declared.unbuilt.Unbuilt.TheVariants.{AboveTop, NoFile, Draft, Key, Pile}
 use Rattle.jobs.specs.declared.written.Written.{Written}
@@ -33,13 +33,14 @@ abbrev pub FirstMissing : Files → ℕ → ℕ → ℕ → Type 0
 FirstMissing files d k i = ((i ≡ d) × (bytes_at files d ≡ None)) ⊎ ((i ≡ k) × IsThere files d × (bytes_at files k ≡ None))
 
 -- The draft's file is asked for first, then the key's, and only then are their bytes asked, the draft before the key. So a missing
--- file is told even where the draft in the other one is spoilt.
+-- file is told even where the draft in the other one is spoilt. For an accepted cipher there may be no memory.
 abbrev pub CipherRefused : Files → ℕ → ℕ → Unbuilt → Type 0
 CipherRefused files d k AboveTop = ⊥
 CipherRefused files d k (NoFile i) = FirstMissing files d k i
 CipherRefused files d k (Draft i f) = (i ≡ d) × OfFiles files d k (λ draft key. NoneBy draft key (DraftFault f))
 CipherRefused files d k (Key i r) = (i ≡ k) × OfFiles files d k (λ draft key. NoneBy draft key (KeyRefused r))
-CipherRefused files d k (Pile e) = ⊥
+CipherRefused files d k (Pile NoMemory) = (m : Meaning) × IsCipherOf files d k m
+CipherRefused files d k (Pile TooHigh) = ⊥
 
 -- A layer cannot be laid exactly where it would stand above the greatest height, or else where there is no memory.
 abbrev pub Unlaid : ℕ → Unbuilt → Type 0
@@ -58,7 +59,7 @@ pub record Buildable (files : Files) (w : Written) : Type 0 where
 
 -- A leaf is refused, or a layer cannot be laid, and it is the first: of a chain the first part is built before the second, and a
 -- layer is laid only once all that is below it was built. So at most one of these reasons holds, but that memory may be wanting
--- at any layer.
+-- at any layer, and for any cipher.
 abbrev pub Refused : Files → Written → Unbuilt → Type 0
 Refused files (Clear t) e = ⊥
 Refused files (Plus t k) e = PlusRefused t k e

@@ -1,5 +1,6 @@
 // Building the pile that is written.
 ghost use Rattle.std.specs.Prelude.{◌≡◌, MatchResult};
+ghost use Rattle.kcipher.specs.Ciphers.{cipher_means};
 ghost use Rattle.jobs.specs.Building.{Answers};
 ghost use Rattle.jobs.specs.Leaves.{leaf_means};
 ghost use Rattle.jobs.specs.Refused.{PlusRefused, CipherRefused};
@@ -12,6 +13,8 @@ use crate::written::Written;
 use codings::clear::Clear;
 use codings::plus::Plus;
 use kcipher::bytes::{NoCipher, cipher_of};
+use kcipher::cipher::KCipher;
+use piles::error::PileError;
 use std::alloc::Global;
 
 // The pile that is written, over these files, or what refuses it.
@@ -21,7 +24,7 @@ pub fn build(heap: Global, written: &Written, files: &[Vec<u8>]) -> Result<Built
     let built = match written {
         Written::Clear(top) => Built::leaf(Leaf::Clear(Clear::new(*top))),
         Written::Plus(top, k) => Built::leaf(plus(*top, *k)?),
-        Written::Cipher(draft, key) => Built::leaf(cipher(files, *draft, *key)?),
+        Written::Cipher(draft, key) => Built::leaf(cipher(heap, files, *draft, *key)?),
         Written::Chain(first, then) => {
             let first = build(heap, first, files)?;
             first.chain(heap, build(heap, then, files)?)?
@@ -42,15 +45,25 @@ fn plus(top: u64, k: u64) -> Result<Leaf, Unbuilt>
 }
 
 // The cipher of two files.
-fn cipher(files: &[Vec<u8>], draft: usize, key: usize) -> Result<Leaf, Unbuilt>
+fn cipher(heap: Global, files: &[Vec<u8>], draft: usize, key: usize) -> Result<Leaf, Unbuilt>
     ensures { MatchResult result (λ l. IsCipherOf files.now draft key (leaf_means l)) (λ e. CipherRefused files.now draft key e) }
 {
     let draft_bytes = file(files, draft)?;
     let key_bytes = file(files, key)?;
     match cipher_of(draft_bytes, key_bytes) {
-        Ok(coding) => Ok(Leaf::Cipher(coding)),
+        Ok(coding) => on_heap(heap, coding),
         Err(NoCipher::Draft(fault)) => Err(Unbuilt::Draft(draft, fault)),
         Err(NoCipher::Key(refusal)) => Err(Unbuilt::Key(key, refusal)),
+    }
+}
+
+// A cipher as a leaf.
+fn on_heap(heap: Global, coding: KCipher) -> Result<Leaf, Unbuilt>
+    ensures { MatchResult result (λ l. leaf_means l ≡ cipher_means coding) (λ e. e ≡ Unbuilt.Pile PileError.NoMemory) }
+{
+    match Box::new(heap, coding) {
+        Ok(boxed) => Ok(Leaf::Cipher(boxed)),
+        Err(_) => Err(Unbuilt::Pile(PileError::NoMemory)),
     }
 }
 

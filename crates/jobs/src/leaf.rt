@@ -5,11 +5,12 @@ use codings::plus::Plus;
 use codings::refusal::AboveTop;
 use kcipher::cipher::KCipher;
 
+// A cipher is large, so it stands on the heap: each layer of a pile has room for a leaf, and a leaf is moved as the pile is built.
 #[derive(Drop)]
 pub enum Leaf {
     Clear(Clear),
     Plus(Plus),
-    Cipher(KCipher),
+    Cipher(Box<KCipher>),
 }
 
 impl Coding for Leaf {
