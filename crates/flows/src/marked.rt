@@ -36,7 +36,7 @@ const NARROWED: Rule = Rule::Narrowed(Shift { top: 7, k: 3 }, 4);
 const CHAINED: Rule = Rule::Chained(Shift { top: 3, k: 1 }, Shift { top: 7, k: 1 });
 
 // The boxes of a width: the width of all but the last, the last width, and the count.
-macro_rules! boxes {
+macro_rules! cut {
     ($width:literal: $wide:literal, $last:literal, $count:literal) => {
         Claim::Boxes(
             $width,
@@ -64,12 +64,8 @@ pub fn marked_cases() -> [&'static [Claim]; 12]
         &[Claim::Sends(Rule::Inverse(8), 0x53, 0xca)],
         &[Claim::Sends(Rule::CpaBox(5, 0, 15), 2, 4)],
         &[Claim::Sends(Rule::CpaBox(5, 0, 24), 0, 3)],
-        &[
-            boxes!(24: 8, 8, 3),
-            boxes!(25: 25, 25, 1),
-            boxes!(64: 8, 8, 8),
-        ],
-        &[boxes!(26: 8, 10, 3), boxes!(59: 9, 14, 6)],
+        &[cut!(24: 8, 8, 3), cut!(25: 25, 25, 1), cut!(64: 8, 8, 8)],
+        &[cut!(26: 8, 10, 3), cut!(59: 9, 14, 6)],
         &[
             Claim::Sends(Rule::ThreeTurned(24), 1, 2),
             Claim::Sends(Rule::ThreeTurned(24), 4, 1),

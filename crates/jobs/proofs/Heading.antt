@@ -1,5 +1,5 @@
 -- A head that is read line by line is what its lines say.
-use Rattle.std.proofs.Common.{◌≡◌, ℕ, suc, ◌+◌, ◌-◌, ◌<◌, ◌≤◌, Bool, true, false, cond, List, [], ◌∷◌, ◌++◌, Option, Some, None, Result, Ok, Err, MatchResult, length, take, drop, get_or, refl, ap, sym, subst, ◌∙◌, append-nil, inl, inr, arith}
+use Rattle.std.proofs.Common.{◌≡◌, ℕ, suc, ◌+◌, ◌-◌, ◌^◌, ◌<◌, ◌≤◌, min, Bool, true, false, cond, List, [], ◌∷◌, ◌++◌, Option, Some, None, Result, Ok, Err, MatchResult, length, take, drop, get_or, refl, ap, sym, subst, ◌∙◌, append-nil, inl, inr, arith}
 use Rattle.std.proofs.Math.Seq.{drop-cons}
 use Rattle.std.proofs.lemmas.List.{take_all, drop_all}
 use Rattle.std.proofs.lemmas.List.Elements.{filter_map-append}
@@ -15,17 +15,17 @@ use Rattle.std.specs.declared.vec.Vec.{Vec}
 use Rattle.jobs.proofs.Reading.{inside_grown}
 use Rattle.jobs.proofs.Squeezed.{squeezed_nil, squeezed_cons}
 use Rattle.jobs.proofs.Wording.{words_are, words_space, words_letter, no_words, apart_letter}
-use Rattle.jobs.specs.Heads.{behind, given, is_given, SpellsPile, SpellsRoles, Once, OfHead, RightSoFar, AllFound, Over, Whole, Lacks, FirstWrong, LineWrong, Spoilt, Taken, has_line}
+use Rattle.jobs.specs.Heads.{behind, given, is_given, SpellsPile, SpellsRoles, Once, OfHead, RightSoFar, AllFound, Over, Whole, HeadFrom, Lacks, FirstWrong, LineWrong, Spoilt, Taken, has_line}
 use Rattle.jobs.specs.Parsed.{Grown, Said, Spelt, texts}
-use Rattle.jobs.specs.Places.{OnLine}
-use Rattle.jobs.specs.Signs.{is_space, not_empty, squeezed, words, WordOver, Apart}
+use Rattle.jobs.specs.Places.{blamed, first_place, line_start, place_from}
+use Rattle.jobs.specs.Signs.{is_space, not_empty, spaces_first, squeezed, words, WordOver, Apart}
 use Rattle.jobs.specs.Steps.{Begins, IsBlank, IsRow, head_text}
 use Rattle.jobs.specs.declared.job.Found.{Found}
 use Rattle.jobs.specs.declared.job.Head.{Head}
 use Rattle.jobs.specs.declared.place.BadText.{BadText}
 use Rattle.jobs.specs.declared.place.HeadWord.{HeadWord}
+use Rattle.jobs.specs.declared.place.Place.{Place}
 use Rattle.jobs.specs.declared.place.HeadWord.TheVariants.{Yarn, Hands, Roles, Records}
-use Rattle.jobs.specs.declared.place.Wrong.{Wrong}
 use Rattle.jobs.specs.declared.place.Wrong.TheVariants.{MissingLine}
 use Rattle.jobs.specs.declared.written.Written.{Written}
 use Rattle.jobs.specs.declared.written.Written.TheVariants.{Clear, Plus, Cipher, Chain', Turned', Narrowed'}
@@ -213,50 +213,73 @@ none_of [] e = refl
 none_of (ws ∷ more) e = cc
 
 pub spoilt_lacking : (ls : List (List ℕ)) (n : ℕ) (f : Found) (h : HeadWord) (e : BadText) → RightSoFar (take n ls) f → Over (drop n ls) → has_line f h ≡ false
-    → e.wrong ≡ MissingLine h → e.place.line ≡ n + 1 → e.place.column ≡ 1 → Spoilt ls e
-spoilt_lacking ls n f h e g over absent wrong line column =
+    → e ≡ blamed (line_start (n + 1)) (MissingLine h) → Spoilt ls e
+spoilt_lacking ls n f h e g over absent is =
+    let line : e.place.line ≡ n + 1 = ap (λ (z : BadText). z.place.line) is in
+    let column : e.place.column ≡ 1 = ap (λ (z : BadText). z.place.column) is in
     let same : n ≡ e.place.line - 1 = omega (arith, line) in
-    let lacks : Lacks (take n ls) (drop n ls) e.wrong =
-    record { word = h; is = wrong; none = none_of (given h (take n ls)) (had (take n ls) f g h ∙ absent); over = over } in
+    let lacks : Lacks (take n ls) (drop n ls) e =
+    record {
+      word = h;
+      is = is ∙ ap (λ k. blamed (line_start k) (MissingLine h)) (sym line);
+      none = none_of (given h (take n ls)) (had (take n ls) f g h ∙ absent);
+      over = over;
+    } in
     record {
       counted = record { line = omega (arith, line); column = omega (arith, column) };
       before = (f, subst (λ k. RightSoFar (take k ls) f) same g);
-      why = inl (subst (λ k. Lacks (take k ls) (drop k ls) e.wrong) same lacks);
+      why = inl (subst (λ k. Lacks (take k ls) (drop k ls) e) same lacks);
     }
 
-wrong_given : (line : List ℕ) (old new : HeadWord → Bool) (w : Wrong) → ((h : HeadWord) → new h ≡ old h) → LineWrong line old w → LineWrong line new w
-wrong_given line old new w same (speaks, inl e) = (speaks, inl e)
-wrong_given line old new w same (speaks, inr (h, b, t)) = (speaks, inr (h, b, (λ k. t.0 (sym (same h) ∙ k), λ k. t.1 (sym (same h) ∙ k))))
+wrong_given : (line : List ℕ) (number : ℕ) (old new : HeadWord → Bool) (e : BadText) → ((h : HeadWord) → new h ≡ old h) → LineWrong line number old e → LineWrong line number new e
+wrong_given line number old new e same (inl none) = inl none
+wrong_given line number old new e same (inr (speaks, (h, b, t))) = inr (speaks, (h, b, (λ k. t.0 (sym (same h) ∙ k), λ k. t.1 (sym (same h) ∙ k))))
 
-pub spoilt_line : (ls : List (List ℕ)) (n : ℕ) (f : Found) (line : List ℕ) (size : ℕ) (e : BadText) → RightSoFar (take n ls) f → n < length ls → line ≡ get_or ls n line
-    → OnLine (n + 1) 1 size e.place → LineWrong line (has_line f) e.wrong → Spoilt ls e
-spoilt_line ls n f line size e g low is place wrong =
-    let same : n ≡ e.place.line - 1 = omega (arith, place.same_line) in
+counted_at : (start : Place) (at : ℕ) (p : Place) → p ≡ place_from start at → 1 ≤ start.column → 1 ≤ p.column
+counted_at start at p e low = let column : p.column ≡ min (start.column + at) (2 ^ 64 - 1) = ap (λ (z : Place). z.column) e in omega (arith, column)
+
+-- A line that is wrong is told as itself.
+told_itself : (line : List ℕ) (number : ℕ) (had : HeadWord → Bool) (e : BadText) → LineWrong line number had e → (e.place.line ≡ number) × (1 ≤ e.place.column)
+told_itself line number had e (inl none) =
+    let place : e.place ≡ first_place line number = ap (λ (z : BadText). z.place) none.is in
+    (ap (λ (z : Place). z.line) place, counted_at (line_start number) (spaces_first line) e.place place (omega arith))
+told_itself line number had e (inr (speaks, (h, b, t))) = go (had h) refl
+  where
+    go : (v : Bool) → had h ≡ v → (e.place.line ≡ number) × (1 ≤ e.place.column)
+    go true k =
+        let place : e.place ≡ first_place line number = ap (λ (z : BadText). z.place) (t.0 k) in
+        (ap (λ (z : Place). z.line) place, counted_at (line_start number) (spaces_first line) e.place place (omega arith))
+    go false k =
+        let wrong = t.1 k in
+        (ap (λ (z : Place). z.line) wrong.place, counted_at (line_start number) wrong.at e.place wrong.place (omega arith))
+
+pub spoilt_line : (ls : List (List ℕ)) (n : ℕ) (f : Found) (line : List ℕ) (e : BadText) → RightSoFar (take n ls) f → n < length ls → line ≡ get_or ls n line
+    → LineWrong line (n + 1) (has_line f) e → Spoilt ls e
+spoilt_line ls n f line e g low is wrong =
+    let told = told_itself line (n + 1) (has_line f) e wrong in
+    let same : n ≡ e.place.line - 1 = omega (arith, told.0) in
     let next : line ∷ drop (suc n) ls ≡ drop n ls = ap (λ z. z ∷ drop (suc n) ls) is ∙ sym (drop-cons ls n line low) in
-    let here : FirstWrong (take n ls) (line ∷ drop (suc n) ls) e.wrong = wrong_given line (has_line f) (is_given (take n ls)) e.wrong (had (take n ls) f g) wrong in
-    let there : FirstWrong (take n ls) (drop n ls) e.wrong = subst (λ z. FirstWrong (take n ls) z e.wrong) next here in
+    let itself : LineWrong line e.place.line (has_line f) e = subst (λ k. LineWrong line k (has_line f) e) (sym told.0) wrong in
+    let here : FirstWrong (take n ls) (line ∷ drop (suc n) ls) e = wrong_given line e.place.line (has_line f) (is_given (take n ls)) e (had (take n ls) f g) itself in
+    let there : FirstWrong (take n ls) (drop n ls) e = subst (λ z. FirstWrong (take n ls) z e) next here in
     record {
-      counted = record { line = omega (arith, place.same_line); column = place.from };
+      counted = record { line = omega (arith, told.0); column = told.1 };
       before = (f, subst (λ k. RightSoFar (take k ls) f) same g);
-      why = inr (subst (λ k. FirstWrong (take k ls) (drop k ls) e.wrong) same there);
+      why = inr (subst (λ k. FirstWrong (take k ls) (drop k ls) e) same there);
     }
 
-pub line_spoilt : (all seen : List (List ℕ)) (n k : ℕ) (f : Found) (line : List ℕ) (size : ℕ) (e : BadText) → RightSoFar seen f → n ≡ k → seen ≡ take k all
-    → (k < length all) × (line ≡ get_or all k line) → OnLine (n + 1) 1 size e.place × LineWrong line (has_line f) e.wrong → Spoilt all e
-line_spoilt all seen n k f line size e g count is turn bad =
-    spoilt_line all k f line size e (subst (λ z. RightSoFar z f) is g) turn.0 turn.1 (subst (λ m. OnLine (m + 1) 1 size e.place) count bad.0) bad.1
+pub line_spoilt : (all seen : List (List ℕ)) (n k : ℕ) (f : Found) (line : List ℕ) (e : BadText) → RightSoFar seen f → n ≡ k → seen ≡ take k all
+    → (k < length all) × (line ≡ get_or all k line) → LineWrong line (n + 1) (has_line f) e → Spoilt all e
+line_spoilt all seen n k f line e g count is turn bad =
+    spoilt_line all k f line e (subst (λ z. RightSoFar z f) is g) turn.0 turn.1 (subst (λ m. LineWrong line (m + 1) (has_line f) e) count bad)
 
 -- What is answered at the end of a head, or where a line is missing from it.
-abbrev pub HeadFrom : Found → ℕ → Result Head BadText → Type 0
-HeadFrom f n r = MatchResult r (λ h. AllFound f n h)
-    (λ e. (w : HeadWord) × (has_line f w ≡ false) × (e.wrong ≡ MissingLine w) × (e.place.line ≡ n + 1) × (e.place.column ≡ 1))
-
 abbrev pub HeadOf : List (List ℕ) → Result Head BadText → Type 0
 HeadOf ls r = MatchResult r (λ h. Whole ls h) (λ e. Spoilt ls e)
 
 head_at : (ls : List (List ℕ)) (n : ℕ) (f : Found) (r : Result Head BadText) → RightSoFar (take n ls) f → n ≤ length ls → Over (drop n ls) → HeadFrom f n r → HeadOf ls r
 head_at ls n f (Ok h) g low over is = whole_from ls n f h g is low over
-head_at ls n f (Err e) g low over (w, lacks, wrong, line, column) = spoilt_lacking ls n f w e g over lacks wrong line column
+head_at ls n f (Err e) g low over (w, lacks, is) = spoilt_lacking ls n f w e g over lacks is
 
 pub head_step : (all seen : List (List ℕ)) (n k : ℕ) (f g : Found) (line : List ℕ) (r : Result Head BadText) → RightSoFar seen f → n ≡ k → seen ≡ take k all
     → (k < length all) × (line ≡ get_or all k line) → Taken line f g true → HeadFrom g n r → HeadOf all r

@@ -1,4 +1,5 @@
 pub mod Squeezed
+pub mod Faults
 pub mod Wording
 pub mod Reading
 pub mod Rowing

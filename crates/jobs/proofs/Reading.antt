@@ -7,7 +7,9 @@ use Rattle.std.specs.Option.{option_map}
 use Rattle.std.specs.Prelude.{slice_get, string_bytes}
 use Rattle.std.specs.Str.{bytes_eq}
 use Rattle.std.specs.declared.alloc.Global.{Global}
-use Rattle.jobs.specs.Places.{After, NumberRead, rest_of, InText, OnLine}
+use Rattle.jobs.proofs.Faults.{wrong_at}
+use Rattle.jobs.specs.Faults.{InText, Parses}
+use Rattle.jobs.specs.Places.{After, NumberRead, rest_of}
 use Rattle.jobs.specs.Signs.{squeezed}
 use Rattle.jobs.specs.Parsed.{EachOnce, Grown, Lacking, Placed, Inside, Said, PileRead, InsideRead, NameRead, called, form_name, form_of}
 use Rattle.jobs.specs.Refused.{height}
@@ -213,13 +215,9 @@ placed_grown old new name i (inr (lacking, end, more)) = record {
 -- ---- a text from its start
 
 pub from_start : (names : List (List ℕ)) (n : ℕ) (r : Result Written BadText) (c : Cursor) (s : Source) (text : List ℕ) (p : Place) → c.source ≡ s → c.at ≡ 0
-    → s.bytes.now ≡ text → s.start ≡ p → MatchResult r (λ w. Said names n (rest_of c) w) (λ e. InText c.source e)
-    → MatchResult r (λ w. Said names n (squeezed text) w) (λ e. OnLine p.line p.column (length text) e.place)
+    → s.bytes.now ≡ text → s.start ≡ p → MatchResult r (λ w. Said names n (rest_of c) w) (λ e. InText c.source e) → Parses names n text p r
 from_start names n (Ok w) c s text p same at bytes start h =
     let all : rest_of c ≡ squeezed text = ap (λ k. squeezed (drop k c.source.bytes.now)) at ∙ ap (λ z. squeezed z.bytes.now) same ∙ ap squeezed bytes in
     subst (λ z. Said names n z w) all h
 from_start names n (Err e) c s text p same at bytes start h =
-    let line : c.source.start.line ≡ p.line = ap (λ z. z.start.line) same ∙ ap (λ z. z.line) start in
-    let column : c.source.start.column ≡ p.column = ap (λ z. z.start.column) same ∙ ap (λ z. z.column) start in
-    let long : length c.source.bytes.now ≡ length text = ap (λ z. length z.bytes.now) same ∙ ap length bytes in
-    record { same_line = h.place.same_line ∙ line; from = omega (arith, h.place.from); to = omega (arith, h.place.to) }
+    wrong_at c.source text p e (ap (λ (z : Source). z.bytes.now) same ∙ bytes) (ap (λ (z : Source). z.start) same ∙ start) h

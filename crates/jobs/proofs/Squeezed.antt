@@ -3,7 +3,7 @@ use Rattle.std.proofs.Common.{◌≡◌, ℕ, zero, suc, ◌+◌, ◌<◌, Bool,
 use Rattle.std.proofs.Math.Seq.{drop-cons, take-suc, drop-length}
 use Rattle.std.proofs.lemmas.Bool.{eqb-true}
 use Rattle.std.proofs.lemmas.List.{get_or-drop}
-use Rattle.jobs.specs.Signs.{is_space, squeezed, code_of}
+use Rattle.jobs.specs.Signs.{is_space, spaces_first, squeezed, code_of, Flush}
 use Rattle.jobs.specs.declared.place.Sign.{Sign}
 use Rattle.jobs.specs.declared.place.Sign.TheVariants.{Open, Comma, Close}
 
@@ -51,3 +51,37 @@ at_the_end bs i e = ap (λ k. squeezed (drop k bs)) (eqb-true i (length bs) e) �
 pub filled : (n : ℕ) → (n == 0) ≡ false → 0 < n
 filled zero e = cc
 filled (suc n) e = omega arith
+
+-- ---- the spaces that come first
+
+spaces_nil : spaces_first [] ≡ 0
+unfolding spaces_first
+spaces_nil = refl
+
+spaces_cons : (b : ℕ) (bs : List ℕ) (v : Bool) → is_space b ≡ v → spaces_first (b ∷ bs) ≡ cond v (suc (spaces_first bs)) 0
+unfolding spaces_first
+spaces_cons b bs v e = ap (λ z. cond z (suc (spaces_first bs)) 0) e
+
+-- a space at i, behind spaces
+pub spaces_more : (bs : List ℕ) (i : ℕ) → i < length bs → is_space (get_or bs i 0) ≡ true → spaces_first bs ≡ i + spaces_first (drop i bs)
+    → spaces_first bs ≡ i + 1 + spaces_first (drop (i + 1) bs)
+spaces_more bs i low e h =
+    let next : spaces_first (drop i bs) ≡ suc (spaces_first (drop (i + 1) bs)) =
+    ap spaces_first (from_next bs i low) ∙ spaces_cons (get_or bs i 0) (drop (i + 1) bs) true e in
+    omega (arith, h, next)
+
+-- no space at i, behind spaces
+pub spaces_until : (bs : List ℕ) (i : ℕ) → i < length bs → is_space (get_or bs i 0) ≡ false → spaces_first bs ≡ i + spaces_first (drop i bs) → i ≡ spaces_first bs
+spaces_until bs i low e h =
+    let next : spaces_first (drop i bs) ≡ 0 = ap spaces_first (from_next bs i low) ∙ spaces_cons (get_or bs i 0) (drop (i + 1) bs) false e in
+    omega (arith, h, next)
+
+-- nothing but spaces
+pub spaces_all : (bs : List ℕ) (i : ℕ) → i ≡ length bs → spaces_first bs ≡ i + spaces_first (drop i bs) → length bs ≡ spaces_first bs
+spaces_all bs i e h =
+    let next : spaces_first (drop i bs) ≡ 0 = ap (λ k. spaces_first (drop k bs)) e ∙ ap spaces_first (drop-length bs) ∙ spaces_nil in
+    omega (arith, h, next, e)
+
+pub spaces_flush : (bs : List ℕ) → Flush bs → spaces_first bs ≡ 0
+spaces_flush [] h = spaces_nil
+spaces_flush (b ∷ bs) h = spaces_cons b bs false h

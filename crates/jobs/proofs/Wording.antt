@@ -7,11 +7,10 @@ use Rattle.std.proofs.lemmas.List.Splits.{slice_split-cons_yes, slice_split-cons
 use Rattle.std.specs.List.{AllByRecursion, filter, slice_split, onto_first}
 use Rattle.std.specs.Prelude.{slice_index}
 use Rattle.jobs.proofs.Squeezed.{squeezed_cons, from_next}
-use Rattle.jobs.specs.Places.{After, OnLine, NextWord, Within, left_of, rest_of, words_left}
+use Rattle.jobs.specs.Places.{After, NextWord, left_of, rest_of, words_left}
 use Rattle.jobs.specs.Signs.{is_space, ends_word, not_empty, squeezed, words, WordOver, Flush, Apart}
 use Rattle.jobs.specs.Steps.{Operands, Speaks, Unknown, StepSaid, WordRead, step_text, word_of, word_text}
 use Rattle.jobs.specs.declared.cursor.Cursor.{Cursor}
-use Rattle.jobs.specs.declared.cursor.Source.{Source}
 use Rattle.jobs.specs.declared.job.LineWord.{LineWord}
 use Rattle.jobs.specs.declared.job.LineWord.TheVariants.{Head as HeadLine, Step as StepLine}
 use Rattle.jobs.specs.declared.job.Step.{Step}
@@ -19,7 +18,6 @@ use Rattle.jobs.specs.declared.job.StepWord.{StepWord}
 use Rattle.jobs.specs.declared.job.StepWord.TheVariants as word
 use Rattle.jobs.specs.declared.job.WordLine.{WordLine}
 use Rattle.jobs.specs.declared.place.HeadWord.TheVariants as head
-use Rattle.jobs.specs.declared.place.Place.{Place}
 
 abbrev parts : List ℕ → List (List ℕ)
 parts s = slice_split is_space s
@@ -316,9 +314,3 @@ speaks line s w r all is over flush some other blank = speaks_at s (squeezed lin
 pub no_bytes : (w : List ℕ) → (length w == 0) ≡ true → get_or w 0 0 ≡ 35 → ⊥
 no_bytes [] e k = cc
 no_bytes (b ∷ w) e k = let none : length (b ∷ w) ≡ 0 = eqb-true (length (b ∷ w)) 0 e in omega (arith, none)
-
--- A place on a whole line.
-pub on_line : (s : Source) (number : ℕ) (line : List ℕ) (p : Place) → s.bytes.now ≡ line → s.start.line ≡ number → s.start.column ≡ 1 → Within s p → OnLine number 1 (length line) p
-on_line s number line p bytes on from within =
-    let long : length s.bytes.now ≡ length line = ap length bytes in
-    record { same_line = within.same_line ∙ on; from = omega (arith, from, within.from); to = omega (arith, from, long, within.to) }

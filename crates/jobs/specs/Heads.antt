@@ -1,22 +1,23 @@
 -- What the lines of a job's head say.
 use Rattle.std.specs.List.{AllByRecursion, concat, filter_map}
 use Rattle.std.specs.Option.{is_some}
-use Rattle.std.specs.Prelude.{◌≡◌, ℕ, ◌-◌, ◌≤◌, ◌⊎◌, Bool, true, false, cond, List, [], ◌∷◌, ◌++◌, length, take, drop, Option, Some, None}
+use Rattle.std.specs.Prelude.{◌≡◌, ℕ, ◌+◌, ◌-◌, ◌≤◌, ◌⊎◌, Bool, true, false, cond, List, [], ◌∷◌, ◌++◌, length, take, drop, Option, Some, None, Result, MatchResult}
 use Rattle.std.specs.Str.{bytes_eq, chars}
 use Rattle.std.specs.declared.alloc.Global.{Global}
 use Rattle.std.specs.declared.vec.Vec.{Vec}
 use Rattle.jobs.specs.Parsed.{Said, texts}
-use Rattle.jobs.specs.Places.{Counted, OfPart}
+use Rattle.jobs.specs.Faults.{InText, WrongAt}
+use Rattle.jobs.specs.Places.{Counted, bad_at, blamed, first_place, line_start}
 use Rattle.jobs.specs.Signs.{words, not_empty}
-use Rattle.jobs.specs.Steps.{Begins, IsBlank, IsRow, Speaks, Unknown, head_text, step_text}
+use Rattle.jobs.specs.Steps.{Begins, IsBlank, IsRow, NoWord, Speaks, head_text, step_text}
+use Rattle.jobs.specs.declared.cursor.Cursor.{Cursor}
 use Rattle.jobs.specs.declared.job.Found.{Found}
 use Rattle.jobs.specs.declared.job.Head.{Head}
 use Rattle.jobs.specs.declared.job.StepWord.{StepWord}
 use Rattle.jobs.specs.declared.place.BadText.{BadText}
 use Rattle.jobs.specs.declared.place.HeadWord.{HeadWord}
 use Rattle.jobs.specs.declared.place.HeadWord.TheVariants.{Yarn, Hands, Roles, Records}
-use Rattle.jobs.specs.declared.place.Wrong.{Wrong}
-use Rattle.jobs.specs.declared.place.Wrong.TheVariants.{MissingLine, TwiceGiven, UnknownWord}
+use Rattle.jobs.specs.declared.place.Wrong.TheVariants.{MissingLine, TwiceGiven}
 use Rattle.jobs.specs.declared.written.Written.{Written}
 
 -- Of the words of a line, those behind the first, if that is this one.
@@ -69,15 +70,25 @@ abbrev pub Taken : List ℕ → Found → Found → Bool → Type 0
 Taken line old new false = (ls : List (List ℕ)) → RightSoFar ls old → RightSoFar (ls ++ (line ∷ [])) new
 Taken line old new true = (new ≡ old) × Over (line ∷ [])
 
--- Why a line of the head is wrong: it was given already; or else its operand is wrong.
-abbrev pub HeadWrong : Bool → Wrong → Type 0
-HeadWrong had w = (had ≡ true → w ≡ TwiceGiven) × (had ≡ false → OfPart w)
+-- Why a line of the head is wrong: it was given already, and its first byte that is no space is told; or else it is wrong where
+-- it is told.
+abbrev pub HeadWrong : Bool → List ℕ → ℕ → BadText → Type 0
+HeadWrong had line number e = (had ≡ true → e ≡ blamed (first_place line number) TwiceGiven) × (had ≡ false → WrongAt line (line_start number) e)
 
 -- Why a line ends the job, which no empty line and no comment does: no line of a job begins as it does; or it is one of the head, and
 -- wrong.
-abbrev pub LineWrong : List ℕ → (HeadWord → Bool) → Wrong → Type 0
-LineWrong line had w =
-    Speaks line × (((w ≡ UnknownWord) × Unknown line) ⊎ ((h : HeadWord) × Begins (head_text h) line × HeadWrong (had h) w))
+abbrev pub LineWrong : List ℕ → ℕ → (HeadWord → Bool) → BadText → Type 0
+LineWrong line number had e =
+    NoWord line number e ⊎ (Speaks line × ((h : HeadWord) × Begins (head_text h) line × HeadWrong (had h) line number e))
+
+-- A line was looked at.
+abbrev pub LineRead : List ℕ → ℕ → Found → Found → Result Bool BadText → Type 0
+LineRead line number old new r = MatchResult r (Taken line old new) (LineWrong line number (has_line old))
+
+-- A line of the head was put in, whose word stands here; or it is wrong.
+abbrev pub PutIn : {T : Type 0} → Cursor → Bool → Found → Found → Result T BadText → Type 0
+PutIn here had old new r = MatchResult r (λ x. Taken here.source.bytes.now old new false)
+    (λ e. (had ≡ true → e ≡ bad_at here TwiceGiven) × (had ≡ false → InText here.source e))
 
 -- What was found, where all was.
 pub record AllFound (f : Found) (n : ℕ) (h : Head) : Type 0 where
@@ -87,6 +98,10 @@ pub record AllFound (f : Found) (n : ℕ) (h : Head) : Type 0 where
   pub roles : f.roles ≡ Some h.roles
   pub records : f.records ≡ Some h.records
   pub lines : h.lines ≡ n
+
+-- The head is over behind this many lines: all was found, or the line behind it is told as lacking one.
+abbrev pub HeadFrom : Found → ℕ → Result Head BadText → Type 0
+HeadFrom f n r = MatchResult r (AllFound f n) (λ e. (w : HeadWord) × (has_line f w ≡ false) × (e ≡ blamed (line_start (n + 1)) (MissingLine w)))
 
 -- A job of these lines has this head: it is as long as it says, each of its four lines stands in it once, and says this, and
 -- all other lines in it are empty or comments.
@@ -99,10 +114,10 @@ pub record Whole (ls : List (List ℕ)) (h : Head) : Type 0 where
   pub long : h.lines ≤ length ls
   pub over : Over (drop h.lines ls)
 
--- The head is over, and has no such line.
-pub record Lacks (before from : List (List ℕ)) (w : Wrong) : Type 0 where
+-- The head is over, and has no such line. The line behind it is told, from its beginning.
+pub record Lacks (before from : List (List ℕ)) (e : BadText) : Type 0 where
   pub word : HeadWord
-  pub is : w ≡ MissingLine word
+  pub is : e ≡ blamed (line_start e.place.line) (MissingLine word)
   pub none : given word before ≡ []
   pub over : Over from
 
@@ -110,13 +125,13 @@ abbrev pub is_given : List (List ℕ) → HeadWord → Bool
 is_given ls h = not_empty (given h ls)
 
 -- The first line here is wrong as a line of a head.
-abbrev pub FirstWrong : List (List ℕ) → List (List ℕ) → Wrong → Type 0
-FirstWrong before [] w = ⊥
-FirstWrong before (line ∷ ls) w = LineWrong line (is_given before) w
+abbrev pub FirstWrong : List (List ℕ) → List (List ℕ) → BadText → Type 0
+FirstWrong before [] e = ⊥
+FirstWrong before (line ∷ ls) e = LineWrong line e.place.line (is_given before) e
 
 -- A job of these lines has no head, and this is its first fault: all lines before it are right; it is of a line of the head
 -- that is missing where the head is over, or of the line that stands there.
 pub record Spoilt (ls : List (List ℕ)) (e : BadText) : Type 0 where
   pub counted : Counted e.place
   pub before : (f : Found) × RightSoFar (take (e.place.line - 1) ls) f
-  pub why : Lacks (take (e.place.line - 1) ls) (drop (e.place.line - 1) ls) e.wrong ⊎ FirstWrong (take (e.place.line - 1) ls) (drop (e.place.line - 1) ls) e.wrong
+  pub why : Lacks (take (e.place.line - 1) ls) (drop (e.place.line - 1) ls) e ⊎ FirstWrong (take (e.place.line - 1) ls) (drop (e.place.line - 1) ls) e

@@ -7,6 +7,7 @@ pub mod Telling
 pub mod Signs
 pub mod Places
 pub mod Parsed
+pub mod Faults
 pub mod Rows
 pub mod Steps
 pub mod Heads

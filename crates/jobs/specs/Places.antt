@@ -1,41 +1,30 @@
 -- Places in a text.
 use Rattle.std.specs.List.{AllByRecursion}
-use Rattle.std.specs.Prelude.{◌≡◌, ℕ, ◌+◌, ◌<◌, ◌≤◌, false, List, ◌++◌, length, drop}
-use Rattle.jobs.specs.Signs.{ends_word, squeezed, words, WordOver, Numeral}
+use Rattle.std.specs.Prelude.{◌≡◌, ℕ, ◌+◌, ◌-◌, ◌^◌, ◌<◌, ◌≤◌, false, List, ◌++◌, length, drop, min}
+use Rattle.jobs.specs.Signs.{ends_word, spaces_first, squeezed, words, WordOver, Numeral}
 use Rattle.jobs.specs.declared.cursor.Cursor.{Cursor}
 use Rattle.jobs.specs.declared.cursor.Source.{Source}
 use Rattle.jobs.specs.declared.place.BadText.{BadText}
 use Rattle.jobs.specs.declared.place.Place.{Place}
 use Rattle.jobs.specs.declared.place.Wrong.{Wrong}
-use Rattle.jobs.specs.declared.place.Wrong.TheVariants as wrong
 
--- A place on a line, from a column to the end of so many bytes that start there.
-pub record OnLine (line column size : ℕ) (p : Place) : Type 0 where
-  pub same_line : p.line ≡ line
-  pub from : column ≤ p.column
-  pub to : p.column ≤ column + size
+-- The place so many bytes behind this one on its line. A column that is too large to be told is told as the largest.
+abbrev pub place_from : Place → ℕ → Place
+place_from p at = record { line = p.line; column = min (p.column + at) (2 ^ 64 - 1) }
 
-abbrev pub Within : Source → Place → Type 0
-Within s p = OnLine s.start.line s.start.column (length s.bytes.now) p
+abbrev pub place_at : ℕ → ℕ → Place
+place_at line column = record { line = line; column = column }
 
--- A reason that is told of a part of a line, and not of the whole line.
-abbrev pub OfPart : Wrong → Type 0
-OfPart wrong.UnknownName = Unit {0}
-OfPart wrong.NoNumber = Unit {0}
-OfPart wrong.NoName = Unit {0}
-OfPart (wrong.MissingSign s) = Unit {0}
-OfPart wrong.GoesOn = Unit {0}
-OfPart wrong.TooDeep = Unit {0}
-OfPart wrong.NoMemory = Unit {0}
-OfPart wrong.UnknownWord = ⊥
-OfPart (wrong.MissingLine h) = ⊥
-OfPart wrong.TwiceGiven = ⊥
-OfPart wrong.LateHead = ⊥
+-- Where a line begins.
+abbrev pub line_start : ℕ → Place
+line_start number = place_at number 1
 
--- Something in the text is wrong.
-pub record InText (s : Source) (e : BadText) : Type 0 where
-  pub place : Within s e.place
-  pub reason : OfPart e.wrong
+-- Where a line's first byte stands that is no space.
+abbrev pub first_place : List ℕ → ℕ → Place
+first_place line number = place_from (line_start number) (spaces_first line)
+
+abbrev pub blamed : Place → Wrong → BadText
+blamed p w = record { place = p; wrong = w }
 
 -- What is left of the text.
 abbrev pub left_of : Cursor → List ℕ
@@ -48,6 +37,17 @@ rest_of c = squeezed (left_of c)
 -- What is left of the text, as its words.
 abbrev pub words_left : Cursor → List (List ℕ)
 words_left c = words (left_of c)
+
+abbrev pub place_of : Cursor → Place
+place_of c = place_from c.source.start c.at
+
+-- This is wrong here.
+abbrev pub bad_at : Cursor → Wrong → BadText
+bad_at c w = blamed (place_of c) w
+
+-- How many bytes stand before the first that is no space.
+abbrev pub past : Cursor → ℕ
+past c = c.at + spaces_first (left_of c)
 
 -- A later place of the same text; between the two stands s, with spaces.
 pub record After (c d : Cursor) (s : List ℕ) : Type 0 where
@@ -73,9 +73,10 @@ pub record Counted (p : Place) : Type 0 where
   pub line : 1 ≤ p.line
   pub column : 1 ≤ p.column
 
--- A whole line of this number, between whose ends stand these places of a text.
+-- A whole line of this number, between whose ends stand these places of a text, the first of them behind the line's first spaces.
 pub record IsOn (line : List ℕ) (number : ℕ) (c d : Cursor) : Type 0 where
   pub bytes : c.source.bytes.now ≡ line
   pub on : c.source.start.line ≡ number
   pub from : c.source.start.column ≡ 1
+  pub first : place_of c ≡ first_place line number
   pub same : d.source ≡ c.source

@@ -1,6 +1,6 @@
 -- The signs and numbers of a text.
-use Rattle.std.specs.List.{filter, slice_split}
-use Rattle.std.specs.Prelude.{◌≡◌, ℕ, Bool, true, false, ◌||◌, cond, List, [], ◌∷◌, ◌==◌}
+use Rattle.std.specs.List.{AllByRecursion, filter, slice_split}
+use Rattle.std.specs.Prelude.{◌≡◌, ℕ, suc, ◌^◌, ◌<◌, ◌≤◌, Bool, true, false, ◌||◌, cond, IsUtf8, List, [], ◌∷◌, ◌++◌, ◌==◌, length}
 use Rattle.std.specs.Str.Parse.{IsNumeral, digits_value}
 use Rattle.jobs.specs.declared.place.Sign.{Sign}
 use Rattle.jobs.specs.declared.place.Sign.TheVariants.{Open, Comma, Close}
@@ -13,6 +13,11 @@ is_space b = b == 32 || b == 9
 unfoldable pub squeezed : List ℕ → List ℕ
 squeezed [] = []
 squeezed (b ∷ bs) = cond (is_space b) (squeezed bs) (b ∷ squeezed bs)
+
+-- How many spaces come first.
+unfoldable pub spaces_first : List ℕ → ℕ
+spaces_first [] = 0
+spaces_first (b ∷ bs) = cond (is_space b) (suc (spaces_first bs)) 0
 
 -- What ends a word: a space or a sign.
 abbrev pub ends_word : ℕ → Bool
@@ -49,3 +54,18 @@ code_of Close = 41
 -- One or more decimal digits, and the number that they are.
 abbrev pub Numeral : List ℕ → ℕ → Type 0
 Numeral s n = IsNumeral 10 s × (n ≡ digits_value 10 s)
+
+-- No number from 0 to 2^64 - 1: the word is no such digits, or they are a larger one.
+abbrev pub IsNoNumber : List ℕ → Type 0
+IsNoNumber s = IsNumeral 10 s → 2 ^ 64 ≤ digits_value 10 s
+
+-- No name of a file: the word is empty, or no text in UTF-8.
+abbrev pub IsNoName : List ℕ → Type 0
+IsNoName s = 0 < length s → IsUtf8 s → ⊥
+
+-- The word that a text begins with, which may be empty.
+pub record FirstWord (s w : List ℕ) : Type 0 where
+  pub rest : List ℕ
+  pub is : s ≡ w ++ rest
+  pub whole : AllByRecursion (λ b. ends_word b ≡ false) w
+  pub over : WordOver rest

@@ -1,7 +1,8 @@
 -- What a line of a job says.
 use Rattle.std.specs.Prelude.{◌≡◌, ℕ, List, [], ◌∷◌, ◌++◌, ◌⊎◌, codes, slice_index, Option, Some, None}
 use Rattle.book.specs.declared.entry.Entry.{Entry}
-use Rattle.jobs.specs.Places.{left_of, words_left, IsOn, OfPart}
+use Rattle.jobs.specs.Faults.{WrongAt}
+use Rattle.jobs.specs.Places.{left_of, words_left, IsOn, blamed, first_place, line_start}
 use Rattle.jobs.specs.Signs.{squeezed, words, WordOver, Apart, Numeral}
 use Rattle.jobs.specs.declared.job.LineWord.{LineWord}
 use Rattle.jobs.specs.declared.job.LineWord.TheVariants.{Head as HeadLine, Step as StepLine}
@@ -12,7 +13,7 @@ use Rattle.jobs.specs.declared.job.StepWord.TheVariants as word
 use Rattle.jobs.specs.declared.job.WordLine.{WordLine}
 use Rattle.jobs.specs.declared.place.HeadWord.{HeadWord}
 use Rattle.jobs.specs.declared.place.HeadWord.TheVariants as head
-use Rattle.jobs.specs.declared.place.Wrong.{Wrong}
+use Rattle.jobs.specs.declared.place.BadText.{BadText}
 use Rattle.jobs.specs.declared.place.Wrong.TheVariants.{LateHead, UnknownWord}
 
 -- An empty line or a comment, whose first sign is #.
@@ -93,12 +94,19 @@ Speaks line = IsBlank line → ⊥
 abbrev pub Unknown : List ℕ → Type 0
 Unknown line = (w : LineWord) → Begins (word_text w) line → ⊥
 
--- Why a line is refused as a step, which no empty line and no comment is: no line begins as it does; or it is one of the head; or it
--- is a step, and its operands are wrong.
-abbrev pub StepWrong : List ℕ → Wrong → Type 0
-StepWrong line w =
-    Speaks line
-    × (((w ≡ UnknownWord) × Unknown line) ⊎ ((h : HeadWord) × Begins (head_text h) line × (w ≡ LateHead)) ⊎ ((s : StepWord) × Begins (step_text s) line × OfPart w))
+-- A line that is neither empty nor a comment begins with no word of a job. Its first byte that is no space is told.
+pub record NoWord (line : List ℕ) (number : ℕ) (e : BadText) : Type 0 where
+  pub is : e ≡ blamed (first_place line number) UnknownWord
+  pub speaks : Speaks line
+  pub unknown : Unknown line
+
+-- Why a line is refused as a step, which no empty line and no comment is: no line begins as it does; or it is one of the head, and
+-- its first byte that is no space is told; or it is a step, and wrong where it is told.
+abbrev pub StepWrong : List ℕ → ℕ → BadText → Type 0
+StepWrong line number e =
+    NoWord line number e
+    ⊎ (Speaks line × ((h : HeadWord) × Begins (head_text h) line × (e ≡ blamed (first_place line number) LateHead)))
+    ⊎ (Speaks line × ((s : StepWord) × Begins (step_text s) line × WrongAt line (line_start number) e))
 
 -- A line begins with a word.
 pub record WordRead (line : List ℕ) (number : ℕ) (w : WordLine) : Type 0 where
@@ -107,3 +115,8 @@ pub record WordRead (line : List ℕ) (number : ℕ) (w : WordLine) : Type 0 whe
   pub over : WordOver (left_of w.after)
   pub words : Apart (left_of w.after) → words line ≡ word_text w.word ∷ words_left w.after
   pub speaks : Speaks line
+
+-- The line is blank, or begins with this word.
+abbrev pub BeginsWith : List ℕ → ℕ → Option WordLine → Type 0
+BeginsWith line number None = IsBlank line
+BeginsWith line number (Some w) = WordRead line number w

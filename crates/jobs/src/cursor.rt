@@ -1,7 +1,7 @@
 // Going over a text.
 ghost use Rattle.std.specs.List.{AllByRecursion};
-ghost use Rattle.std.specs.Prelude.{◌≡◌, ◌≤◌, ◌<◌, ◌++◌, false, length, take, drop, IfSome};
-ghost use Rattle.jobs.specs.Signs.{is_space, ends_word, squeezed, words, WordOver, Flush, code_of, Numeral};
+ghost use Rattle.std.specs.Prelude.{◌≡◌, ◌≤◌, ◌<◌, ◌++◌, false, length, take, drop, MatchOption};
+ghost use Rattle.jobs.specs.Signs.{is_space, ends_word, spaces_first, squeezed, words, WordOver, Flush, code_of, Numeral, IsNoNumber, IsNoName};
 
 use crate::place::{BadText, Place, Sign, Wrong};
 use std::str;
@@ -36,6 +36,7 @@ fn ends_word(byte: u8) -> bool
 
 // How many spaces come first.
 fn count_spaces(bytes: &[u8]) -> usize
+    ensures is { result ≡ spaces_first bytes.now }
     ensures within { result ≤ length bytes.now }
     ensures blank { squeezed (drop result bytes.now) ≡ squeezed bytes.now }
     ensures apart { words (drop result bytes.now) ≡ words bytes.now }
@@ -89,8 +90,10 @@ impl<'a> Source<'a> {
 }
 
 impl<'a> Cursor<'a> {
-    ghost use Rattle.std.specs.Prelude.{◌+◌, ◌==◌, [], ◌∷◌, MatchResult};
-    ghost use Rattle.jobs.specs.Places.{Within, InText, After, NextWord, NumberRead, left_of, rest_of, words_left};
+    ghost use Rattle.std.specs.Prelude.{◌+◌, ◌==◌, [], ◌∷◌, IfErr, IfOk, MatchResult};
+    ghost use Rattle.jobs.specs.Faults.{Blames, NotFirst};
+    ghost use Rattle.jobs.specs.Places.{After, NextWord, NumberRead, bad_at, left_of, past as past_of, place_of, rest_of, words_left};
+    ghost use Rattle.jobs.specs.declared.place.Wrong.TheVariants.{GoesOn, MissingSign, NoName, NoNumber};
 
     pub(crate) fn new(source: Source<'a>) -> Cursor<'a>
         ensures source { result.source ≡ source.entry }
@@ -100,7 +103,7 @@ impl<'a> Cursor<'a> {
     }
 
     pub(crate) fn place(self) -> Place
-        ensures { Within self.entry.source result }
+        ensures { result ≡ place_of self.entry }
     {
         Place {
             line: self.source.start.line,
@@ -109,8 +112,7 @@ impl<'a> Cursor<'a> {
     }
 
     pub(crate) fn bad(self, wrong: Wrong) -> BadText
-        ensures place { Within self.entry.source result.place }
-        ensures wrong { result.wrong ≡ wrong }
+        ensures { result ≡ bad_at self.entry wrong }
     {
         BadText {
             place: self.place(),
@@ -120,7 +122,8 @@ impl<'a> Cursor<'a> {
 
     // What is there, or what is wrong here.
     pub(crate) fn given<T: Drop>(self, found: Option<T>, wrong: Wrong) -> Result<T, BadText>
-        ensures { MatchResult result (λ x. found ≡ Some x) (λ e. Within self.entry.source e.place × (e.wrong ≡ wrong)) }
+        ensures found { IfOk result (λ x. found ≡ Some x) }
+        ensures fault { IfErr result (λ e. (found ≡ None) × (e ≡ bad_at self.entry wrong)) }
     {
         match found {
             Some(x) => Ok(x),
@@ -149,6 +152,7 @@ impl<'a> Cursor<'a> {
 
     pub(crate) fn past_spaces(self) -> Cursor<'a>
         ensures after { After self.entry result [] }
+        ensures at { result.at ≡ past_of self.entry }
         ensures apart { words_left result ≡ words_left self.entry }
         ensures flush { Flush (left_of result) }
     {
@@ -175,7 +179,9 @@ impl<'a> Cursor<'a> {
 
     // The next byte, which is this sign.
     fn past_byte(self, sign: Sign) -> Result<Cursor<'a>, BadText>
-        ensures { MatchResult result (λ c. After self.entry c (code_of sign ∷ [])) (λ e. InText self.entry.source e) }
+        ensures read { IfOk result (λ c. After self.entry c (code_of sign ∷ [])) }
+        ensures fault { IfErr result (λ e. e ≡ bad_at self.entry (MissingSign sign)) }
+        ensures absent { IfErr result (λ _. NotFirst (code_of sign) (left_of self.entry)) }
     {
         let rest = self.rest();
         if !rest.is_empty() && rest[0] == sign.byte() {
@@ -187,14 +193,15 @@ impl<'a> Cursor<'a> {
 
     // Past spaces and this sign.
     pub(crate) fn past_sign(self, sign: Sign) -> Result<Cursor<'a>, BadText>
-        ensures { MatchResult result (λ c. After self.entry c (code_of sign ∷ [])) (λ e. InText self.entry.source e) }
+        ensures read { IfOk result (λ c. After self.entry c (code_of sign ∷ [])) }
+        ensures fault { IfErr result (Blames self.entry (MissingSign sign)) }
     {
         self.past_spaces().past_byte(sign)
     }
 
     // Nothing but spaces follows.
     pub(crate) fn finish(self) -> Result<(), BadText>
-        ensures { MatchResult result (λ _. rest_of self.entry ≡ []) (λ e. InText self.entry.source e) }
+        ensures { MatchResult result (λ _. rest_of self.entry ≡ []) (Blames self.entry GoesOn) }
     {
         let here = self.past_spaces();
         if here.is_end() {
@@ -206,7 +213,8 @@ impl<'a> Cursor<'a> {
 
     // A number after spaces.
     pub(crate) fn number(self) -> Result<(u64, Cursor<'a>), BadText>
-        ensures { MatchResult result (λ r. NumberRead self.entry r.1 r.0) (λ e. InText self.entry.source e) }
+        ensures read { IfOk result (λ r. NumberRead self.entry r.1 r.0) }
+        ensures fault { IfErr result (Blames self.entry NoNumber) }
     {
         let here = self.past_spaces();
         let (word, after) = here.word();
@@ -216,7 +224,8 @@ impl<'a> Cursor<'a> {
 
     // A number after spaces that counts something.
     pub(crate) fn count(self) -> Result<(usize, Cursor<'a>), BadText>
-        ensures { MatchResult result (λ r. NumberRead self.entry r.1 r.0) (λ e. InText self.entry.source e) }
+        ensures read { IfOk result (λ r. NumberRead self.entry r.1 r.0) }
+        ensures fault { IfErr result (Blames self.entry NoNumber) }
     {
         let (number, after) = self.number()?;
         Ok((number as usize, after))
@@ -224,7 +233,8 @@ impl<'a> Cursor<'a> {
 
     // A name after spaces.
     pub(crate) fn name(self) -> Result<(&'a str, Cursor<'a>), BadText>
-        ensures { MatchResult result (λ r. NextWord self.entry r.1 r.0.now) (λ e. InText self.entry.source e) }
+        ensures read { IfOk result (λ r. NextWord self.entry r.1 r.0.now) }
+        ensures fault { IfErr result (Blames self.entry NoName) }
     {
         let here = self.past_spaces();
         let (word, after) = here.word();
@@ -234,19 +244,23 @@ impl<'a> Cursor<'a> {
 }
 
 // The number of a word that is all digits.
+#[tactic(auto, using(crate::proofs::Faults::no_text))]
 fn number_in(word: &[u8]) -> Option<u64>
-    ensures { IfSome result (λ n. Numeral word.now n) }
+    ensures { MatchOption result (IsNoNumber word.now) (λ n. Numeral word.now n) }
 {
     // Where `parse` also takes a plus first, nothing but digits is a number here.
     if !word.is_empty() && word[0] == b'+' {
         None
     } else {
-        str::from_utf8(word).ok()?.parse().ok()
+        match str::from_utf8(word) {
+            Ok(text) => text.parse().ok(),
+            Err(_) => None,
+        }
     }
 }
 
 fn name_in(word: &[u8]) -> Option<&str>
-    ensures { IfSome result (λ name. (name.now ≡ word.now) × (0 < length word.now)) }
+    ensures { MatchOption result (IsNoName word.now) (λ s. (s.now ≡ word.now) × (0 < length word.now)) }
 {
     if word.is_empty() {
         None

@@ -1,14 +1,15 @@
 // Reading a job: its head, and then its steps, a line each.
-ghost use Rattle.std.specs.Prelude.{◌≡◌, ◌+◌, ◌<◌, ◌^◌, ◌++◌, [], ◌∷◌, true, false, length, IfOk, MatchResult, MatchOption};
+ghost use Rattle.std.specs.Prelude.{◌≡◌, ◌+◌, ◌<◌, ◌^◌, ◌++◌, [], ◌∷◌, true, false, IfErr, IfOk, MatchResult, MatchOption};
 ghost use Rattle.std.specs.Str.{chars};
 ghost use Rattle.std.specs.Str.Lines.{lines as lines_of};
 ghost use Rattle.jobs.specs.Heads.{SpellsRoles, Whole, Spoilt};
 ghost use Rattle.jobs.specs.declared.job.LineWord.{LineWord as LineWordOf};
 ghost use Rattle.jobs.specs.declared.place.HeadWord.{HeadWord as HeadWordOf};
-ghost use Rattle.jobs.specs.declared.place.Wrong.TheVariants.{MissingLine, TwiceGiven, UnknownWord};
-ghost use Rattle.jobs.specs.Places.{OnLine, Within, InText, left_of, words_left};
+ghost use Rattle.jobs.specs.declared.place.Wrong.TheVariants.{MissingLine};
+ghost use Rattle.jobs.specs.Faults.{InText};
+ghost use Rattle.jobs.specs.Places.{blamed, left_of, line_start, words_left};
 ghost use Rattle.jobs.specs.Signs.{words, WordOver, Apart};
-ghost use Rattle.jobs.specs.Steps.{IsBlank, WordRead, Says, StepWrong, Speaks, Unknown, Operands, IsEntry, IsRow, word_text, word_of};
+ghost use Rattle.jobs.specs.Steps.{BeginsWith, NoWord, Says, StepWrong, Operands, IsEntry, IsRow, word_text, word_of};
 
 use crate::cursor::{Cursor, Source};
 use crate::parse::whole;
@@ -94,7 +95,7 @@ fn word_of(word: &[u8]) -> Option<LineWord>
 
 // The word of a line, or None where the line is empty or a comment.
 fn word_line(line: &str, number: usize) -> Result<Option<WordLine<'_>>, BadText>
-    ensures { MatchResult result (λ l. MatchOption l (IsBlank line.now) (λ w. WordRead line.now number w)) (λ e. OnLine number 1 (length line.now) e.place × (e.wrong ≡ UnknownWord) × Speaks line.now × Unknown line.now) }
+    ensures { MatchResult result (BeginsWith line.now number) (NoWord line.now number) }
 {
     let start = Place {
         line: number,
@@ -118,7 +119,7 @@ fn word_line(line: &str, number: usize) -> Result<Option<WordLine<'_>>, BadText>
 // before the first step.
 #[tactic(auto, using(crate::proofs::Wording::step_said))]
 pub fn read_step(line: &str, number: usize) -> Result<Option<Step<'_>>, BadText>
-    ensures { MatchResult result (λ step. Says line.now step) (λ e. OnLine number 1 (length line.now) e.place × StepWrong line.now e.wrong) }
+    ensures { MatchResult result (Says line.now) (StepWrong line.now number) }
 {
     let Some(found) = word_line(line, number)? else {
         return Ok(None);
@@ -187,7 +188,7 @@ struct Found {
 }
 
 impl Found {
-    ghost use Rattle.jobs.specs.Heads.{RightSoFar, AllFound, Taken, HeadWrong, LineWrong, has_line};
+    ghost use Rattle.jobs.specs.Heads.{RightSoFar, HeadFrom, LineRead, PutIn, has_line};
     ghost use Rattle.jobs.specs.Steps.{head_text};
 
     fn nothing(heap: Global) -> Found
@@ -215,7 +216,7 @@ impl Found {
 
     // Takes a line of this number in. Answers whether the head is over: the line is a step, and was left alone.
     fn take_line(&mut self, heap: Global, line: &str, number: usize) -> Result<bool, BadText>
-        ensures { MatchResult result (λ over. Taken line.now self.old self.new over) (λ e. OnLine number 1 (length line.now) e.place × LineWrong line.now (has_line self.old) e.wrong) }
+        ensures { LineRead line.now number self.old self.new result }
     {
         let Some(next) = word_line(line, number)? else {
             return Ok(false);
@@ -241,7 +242,7 @@ impl Found {
         requires text { words here.source.bytes.now ≡ words (head_text word ++ left_of after) }
         requires over { WordOver (left_of after) }
         requires words { Apart (left_of after) → words here.source.bytes.now ≡ head_text word ∷ words_left after }
-        ensures { MatchResult result (λ _. Taken here.entry.source.bytes.now self.old self.new false) (λ e. Within here.entry.source e.place × HeadWrong (has_line self.old word) e.wrong) }
+        ensures { PutIn here.entry (has_line self.old word) self.old self.new result }
     {
         if self.has(word) {
             return Err(here.bad(Wrong::TwiceGiven));
@@ -258,7 +259,7 @@ impl Found {
     // The head, if it ends at this line.
     fn head(self, lines: usize) -> Result<Head, BadText>
         requires { lines + 1 < 2 ^ 64 }
-        ensures { MatchResult result (λ head. AllFound self lines head) (λ e. (word : HeadWordOf) × (has_line self word ≡ false) × (e.wrong ≡ MissingLine word) × (e.place.line ≡ lines + 1) × (e.place.column ≡ 1)) }
+        ensures { HeadFrom self lines result }
     {
         let Found {
             yarn,
@@ -281,7 +282,8 @@ impl Found {
 // What a head of so many lines needs.
 fn needed<T: Drop>(found: Option<T>, word: HeadWord, lines: usize) -> Result<T, BadText>
     requires { lines + 1 < 2 ^ 64 }
-    ensures { MatchResult result (λ x. found ≡ Some x) (λ e. (found ≡ None) × (e.wrong ≡ MissingLine word) × (e.place.line ≡ lines + 1) × (e.place.column ≡ 1)) }
+    ensures found { IfOk result (λ x. found ≡ Some x) }
+    ensures lacks { IfErr result (λ e. (found ≡ None) × (e ≡ blamed (line_start (lines + 1)) (MissingLine word))) }
 {
     match found {
         Some(x) => Ok(x),

@@ -1,9 +1,9 @@
 // Reading a pile that is written out.
-ghost use Rattle.std.specs.Prelude.{◌≡◌, ◌+◌, length, IfOk, IfSome, MatchResult, slice_get, List, ℕ};
+ghost use Rattle.std.specs.Prelude.{◌≡◌, ◌+◌, IfOk, MatchOption, MatchResult, slice_get, List, ℕ};
 ghost use Rattle.jobs.specs.declared.parse.Form.TheVariants.{Clear as FormClear, Plus as FormPlus, KCipher as FormKCipher, Chain as FormChain, Turned as FormTurned, Narrowed as FormNarrowed};
-ghost use Rattle.jobs.specs.Places.{OnLine, InText, rest_of};
+ghost use Rattle.jobs.specs.Faults.{InText, Nameless, Parses};
+ghost use Rattle.jobs.specs.Places.{place_at, rest_of};
 ghost use Rattle.jobs.specs.Parsed.{texts, Grown, Placed, form_name, Said, PileRead, InsideRead, NameRead};
-ghost use Rattle.jobs.specs.Signs.{squeezed};
 
 use crate::cursor::{Cursor, Source};
 use crate::place::{BadText, Place, Sign, Wrong};
@@ -28,7 +28,7 @@ enum Form {
 type Read<'a> = Result<(Written, Cursor<'a>), BadText>;
 
 fn form_of(word: &[u8]) -> Option<Form>
-    ensures { IfSome result (λ f. word.now ≡ form_name f) }
+    ensures { MatchOption result (Nameless word.now) (λ f. word.now ≡ form_name f) }
 {
     match word {
         b"clear" => Some(Form::Clear),
@@ -51,7 +51,7 @@ pub fn parse_written(
     names: &mut Vec<String>,
 ) -> Result<Written, BadText>
     ensures grown { Grown (texts names.old) (texts names.new) }
-    ensures read { MatchResult result (λ w. Said (texts names.new) DEEPEST (squeezed text.now) w) (λ e. OnLine line column (length text.now) e.place) }
+    ensures read { Parses (texts names.new) DEEPEST text.now (place_at line column) result }
 {
     let source = Source::new(text, Place { line, column });
     whole(heap, Cursor::new(source), names)

@@ -1,8 +1,6 @@
 // Reading a row of a table: numbers with commas between them.
-ghost use Rattle.std.specs.Prelude.{◌≡◌, length, MatchResult};
-ghost use Rattle.jobs.specs.Places.{OnLine, InText};
-ghost use Rattle.jobs.specs.Rows.{Row, FieldRead};
-ghost use Rattle.jobs.specs.Signs.{squeezed};
+ghost use Rattle.std.specs.Prelude.{MatchResult};
+ghost use Rattle.jobs.specs.Rows.{RowRead, FieldRead, FieldWrong};
 
 use crate::cursor::{Cursor, Source};
 use crate::place::{BadText, Place, Sign, Wrong};
@@ -10,7 +8,7 @@ use crate::place::{BadText, Place, Sign, Wrong};
 // The numbers of a line take the place of those that were there. An empty field is a number that nobody knows, and is put as 0.
 // The number of the line is for the place of a fault.
 pub fn read_row(line: &str, number: usize, numbers: &mut Vec<u64>) -> Result<(), BadText>
-    ensures { MatchResult result (λ _. Row (squeezed line.now) numbers.new.items) (λ e. OnLine number 1 (length line.now) e.place) }
+    ensures { RowRead line.now number numbers.new.items result }
 {
     let start = Place {
         line: number,
@@ -33,7 +31,7 @@ pub fn read_row(line: &str, number: usize, numbers: &mut Vec<u64>) -> Result<(),
 
 // A number, or nothing but spaces.
 fn field(cursor: Cursor<'_>) -> Result<(u64, Cursor<'_>), BadText>
-    ensures { MatchResult result (λ r. FieldRead cursor.entry r.1 r.0) (λ e. InText cursor.entry.source e) }
+    ensures { MatchResult result (λ r. FieldRead cursor.entry r.1 r.0) (FieldWrong cursor.entry) }
 {
     let here = cursor.past_spaces();
     let (word, after) = here.word();

@@ -3,7 +3,7 @@ use Rattle.jobs.proofs.job.entry_of.Goals as goal
 
 pub returns : goal.returns
 returns c =
-    let row = c.in_ok-row.ensures in
-    let column = c.in_ok-column.ensures in
+    let row = c.in_ok-row.ensures.read in
+    let column = c.in_ok-column.ensures.read in
     let said = two_words _ _ _ _ _ c.requires.over row.word column.word c.in_ok-finish.ensures in
     (said.0, record { row = row.digits; column = column.digits; is = said.1; row_is = row.number; column_is = column.number })

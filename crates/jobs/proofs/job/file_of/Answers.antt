@@ -2,4 +2,4 @@ use Rattle.jobs.proofs.Wording.{one_word}
 use Rattle.jobs.proofs.job.file_of.Goals as goal
 
 pub returns : goal.returns
-returns c = one_word _ _ _ c.requires.over c.in_ok-name.ensures c.in_ok-finish.ensures
+returns c = one_word _ _ _ c.requires.over c.in_ok-name.ensures.read c.in_ok-finish.ensures

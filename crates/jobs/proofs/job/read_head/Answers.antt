@@ -13,7 +13,7 @@ returns-in_err-take_line c =
     let turn = YieldsList-turn road c.loop-line.yielded _ c.loop-line.yielded_by _ _ c.in-Some.line c.in-Some.is c.next.ensures.steps in
     let before = YieldsList-so_far road c.loop-line.yielded _ c.loop-line.yielded_by in
     let p = err_from_is_err_and c.from_residual.result c.from_residual.ensures.1 in
-    rw (p.1, p.2) (line_spoilt _ _ _ _ _ c.in-Some.line.now _ _ c.loop-line.invariant.good c.loop-line.invariant.count before turn c.in_err-take_line.ensures)
+    rw (p.1, p.2) (line_spoilt _ _ _ _ _ c.in-Some.line.now _ c.loop-line.invariant.good c.loop-line.invariant.count before turn c.in_err-take_line.ensures)
 
 pub returns-then-branch : goal.returns-then-branch
 returns-then-branch c =

@@ -4,7 +4,10 @@ use Rattle.jobs.specs.Signs.{squeezed, words}
 use Rattle.jobs.specs.declared.cursor.Source.{Source}
 use Rattle.jobs.specs.declared.place.Place.{Place}
 use Rattle.jobs.proofs.Squeezed.{at_the_end}
-use Rattle.jobs.proofs.Wording.{first_word, word_text_some, left_some, no_bytes, on_line, speaks, unknown}
+use Rattle.jobs.proofs.Wording.{first_word, word_text_some, left_some, no_bytes, speaks, unknown}
+use Rattle.jobs.proofs.Faults.{first_at}
+use Rattle.jobs.specs.Places.{blamed}
+use Rattle.jobs.specs.declared.place.Wrong.TheVariants.{UnknownWord}
 use Rattle.jobs.proofs.job.word_line.Goals as goal
 use Rattle.jobs.proofs.job.word_line.Goals.{else-not-is_empty-via-then-not-is_empty+else-word-eq35, else-not-is_empty-via-else-not-is_empty}
 
@@ -38,6 +41,7 @@ returns-in-Some c =
         bytes = ap (λ (z : Source). z.bytes.now) source ∙ c.new.ensures.bytes;
         on = ap (λ (z : Source). z.start.line) source ∙ ap (λ (p : Place). p.line) c.new.ensures.start;
         from = ap (λ (z : Source). z.start.column) source ∙ ap (λ (p : Place). p.column) c.new.ensures.start;
+        first = first_at start here c.args.line.now c.args.number gap.after.same gap.at c.new-2.ensures.at line (ap (λ (z : Source). z.start) c.new-2.ensures.source ∙ c.new.ensures.start);
         same = word.after.same;
       };
       text = sym (ap words line) ∙ sym gap.apart ∙ ap words word.is ∙ ap (λ z. words (z ++ left_of c.word.result.1)) named;
@@ -61,12 +65,9 @@ returns-in-None c =
       | else-not-is_empty-via-then-not-is_empty+else-word-eq35 w ↦ w.if-word-eq35.false
       | else-not-is_empty-via-else-not-is_empty w ↦ no_bytes c.word.result.0.now (sym c.is_empty.ensures ∙ w.if-not-is_empty.false)
     ] in
-    let source = gap.after.same ∙ c.new-2.ensures.source in
-    let bytes = ap (λ (z : Source). z.bytes.now) source ∙ c.new.ensures.bytes in
-    let on = ap (λ (z : Source). z.start.line) source ∙ ap (λ (p : Place). p.line) c.new.ensures.start in
-    let from = ap (λ (z : Source). z.start.column) source ∙ ap (λ (p : Place). p.column) c.new.ensures.start in (
-      on_line here.source c.args.number c.args.line.now c.bad.result.place bytes on from c.bad.ensures.place,
-      c.bad.ensures.wrong,
-      speaks c.args.line.now (left_of here) c.word.result.0.now _ (sym (ap squeezed line) ∙ gap.after.text) word.is word.over gap.flush more other,
-      unknown c.args.line.now (left_of here) c.word.result.0.now _ (sym (ap words line) ∙ sym gap.apart) word.is word.whole word.over gap.flush more c.in-None.ensures,
-    )
+    let first = first_at start here c.args.line.now c.args.number gap.after.same gap.at c.new-2.ensures.at line (ap (λ (z : Source). z.start) c.new-2.ensures.source ∙ c.new.ensures.start) in
+    record {
+      is = c.bad.ensures ∙ ap (λ p. blamed p UnknownWord) first;
+      speaks = speaks c.args.line.now (left_of here) c.word.result.0.now _ (sym (ap squeezed line) ∙ gap.after.text) word.is word.over gap.flush more other;
+      unknown = unknown c.args.line.now (left_of here) c.word.result.0.now _ (sym (ap words line) ∙ sym gap.apart) word.is word.whole word.over gap.flush more c.in-None.ensures;
+    }

@@ -3,8 +3,8 @@ use Rattle.jobs.specs.Signs.{squeezed, code_of}
 use Rattle.jobs.proofs.Squeezed.{past_sign_at, filled}
 use Rattle.jobs.proofs.cursor.Cursor.past_byte.Goals as goal
 
-pub returns-then-rest-byte : goal.returns-then-rest-byte
-returns-then-rest-byte c =
+pub returns-then-rest-byte-clause-read : goal.returns-then-rest-byte-clause-read
+returns-then-rest-byte-clause-read c =
     let s = c.args.self in
     let bs = s.source.bytes.now in
     let long : 0 < length c.rest-rest.result.now = filled _ (sym c.is_empty.ensures ∙ c.if-not-is_empty.true) in
