@@ -14,21 +14,22 @@ use flows::case::{Claim, Plain, Rule, Shift};
 use flows::marked::marked_cases;
 use kcipher::make::make;
 use std::alloc::Global;
+use std::process::Abort;
 use std::test::Fail;
 
 #[test]
 fn marked_cases_come_out(rt: HostRuntime) -> Result<(), Fail> {
     for case in marked_cases() {
-        comes_out(&rt, case)?;
+        comes_out(&rt, rt.alloc(), case)?;
     }
     Ok(())
 }
 
-fn comes_out(rt: &HostRuntime, case: &[Claim]) -> Result<(), Fail> {
+fn comes_out(rt: &impl Abort, alloc: Global, case: &[Claim]) -> Result<(), Fail> {
     for claim in case {
         match *claim {
             Claim::Boxes(width, shape) => assert_eq!(rt; boxes_of(width), Some(shape)),
-            Claim::Sends(rule, x, result) => assert_eq!(rt; sent(rt.alloc(), rule, x)?, result),
+            Claim::Sends(rule, x, result) => assert_eq!(rt; sent(alloc, rule, x)?, result),
         }
     }
     Ok(())

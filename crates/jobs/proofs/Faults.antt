@@ -1,14 +1,14 @@
 -- Where a text is wrong.
-use Rattle.std.proofs.Common.{◌≡◌, ℕ, zero, suc, ◌+◌, ◌^◌, ◌<◌, ◌≤◌, ◌⊎◌, false, List, [], ◌∷◌, ◌++◌, Some, None, Ok, Err, Option, Result, MatchOption, length, drop, get_or, refl, ap, sym, subst, ◌∙◌, inl, inr, arith}
+use Rattle.std.proofs.Common.{◌≡◌, ℕ, zero, suc, ◌^◌, ◌<◌, ◌≤◌, ◌⊎◌, false, List, [], ◌∷◌, ◌++◌, length, drop, get_or, refl, ap, sym, subst, ◌∙◌, inl, inr, arith}
 use Rattle.std.proofs.lemmas.Bool.{cases_lt}
 use Rattle.std.proofs.lemmas.Str.{IsUtf8-from_ascii}
 use Rattle.std.proofs.lemmas.Str.Parse.{digit_from_value, without_leading_plus_none}
 use Rattle.std.specs.List.{AllByRecursion}
-use Rattle.std.specs.Prelude.{IsAscii, IsUtf8, slice_index}
+use Rattle.std.specs.Prelude.{IsAscii, IsUtf8}
 use Rattle.std.specs.Str.Parse.{AllDigits, IsNumeral, digits_value, without_leading_plus}
-use Rattle.jobs.specs.Faults.{Blames, InText, NextWrong, Nameless, Stands, WordIs, WrongAt}
-use Rattle.jobs.specs.Places.{After, IsOn, bad_at, blamed, first_place, left_of, line_start, past, place_from, place_of, rest_of}
-use Rattle.jobs.specs.Signs.{ends_word, spaces_first, squeezed, FirstWord, Flush, IsNoNumber, WordOver}
+use Rattle.jobs.specs.Faults.{Blames, InText, Stands, WordIs, WrongAt}
+use Rattle.jobs.specs.Places.{After, IsOn, bad_at, blamed, first_place, left_of, line_start, past, place_from, place_of}
+use Rattle.jobs.specs.Signs.{ends_word, spaces_first, squeezed, Flush, IsNoNumber, WordOver}
 use Rattle.jobs.specs.declared.cursor.Cursor.{Cursor}
 use Rattle.jobs.specs.declared.cursor.Source.{Source}
 use Rattle.jobs.specs.declared.place.BadText.{BadText}

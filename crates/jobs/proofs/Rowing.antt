@@ -3,7 +3,7 @@ use Rattle.std.proofs.Common.{◌≡◌, ℕ, suc, ◌+◌, ◌<◌, ◌≤◌, 
 use Rattle.std.proofs.lemmas.List.{flat_map_more, map_push}
 use Rattle.std.specs.List.{AllByRecursion, flat_map}
 use Rattle.std.specs.Str.Parse.{AllDigits, digits_value}
-use Rattle.jobs.specs.Faults.{Blames, NextWrong, NotFirst, Stands}
+use Rattle.jobs.specs.Faults.{Blames, NextWrong, NotFirst}
 use Rattle.jobs.specs.Places.{After, NumberRead, bad_at, blamed, left_of, line_start, past, place_from, rest_of}
 use Rattle.jobs.specs.Rows.{Row, RowWrong, StandsInRow, FieldRead, FieldWrong, Continues}
 use Rattle.jobs.proofs.Squeezed.{spaces_flush}
@@ -11,7 +11,6 @@ use Rattle.jobs.specs.Signs.{ends_word, spaces_first, squeezed, Flush}
 use Rattle.jobs.specs.declared.cursor.Cursor.{Cursor}
 use Rattle.jobs.specs.declared.cursor.Source.{Source}
 use Rattle.jobs.specs.declared.place.BadText.{BadText}
-use Rattle.jobs.specs.declared.place.Place.{Place}
 use Rattle.jobs.specs.declared.place.Sign.TheVariants.{Comma}
 use Rattle.jobs.specs.declared.place.Wrong.{Wrong}
 use Rattle.jobs.specs.declared.place.Wrong.TheVariants.{NoNumber, MissingSign, NoMemory}

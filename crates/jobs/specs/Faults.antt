@@ -1,7 +1,7 @@
 -- What stands where a text is wrong.
 use Rattle.std.specs.Prelude.{◌≡◌, ℕ, ◌≤◌, List, [], ◌∷◌, length, drop, Result, MatchResult}
 use Rattle.jobs.specs.Parsed.{Said, form_name}
-use Rattle.jobs.specs.Places.{bad_at, blamed, past, place_from, rest_of}
+use Rattle.jobs.specs.Places.{blamed, past, place_from, rest_of}
 use Rattle.jobs.specs.Signs.{code_of, squeezed, FirstWord, Flush, IsNoName, IsNoNumber}
 use Rattle.jobs.specs.declared.cursor.Cursor.{Cursor}
 use Rattle.jobs.specs.declared.cursor.Source.{Source}

@@ -8,6 +8,7 @@ pub mod Signs
 pub mod Places
 pub mod Parsed
 pub mod Faults
+pub mod Told
 pub mod Rows
 pub mod Steps
 pub mod Heads

@@ -3,7 +3,6 @@ use Rattle.std.specs.List.{AllByRecursion}
 use Rattle.std.specs.Prelude.{◌≡◌, ℕ, ◌+◌, ◌-◌, ◌^◌, ◌<◌, ◌≤◌, false, List, ◌++◌, length, drop, min}
 use Rattle.jobs.specs.Signs.{ends_word, spaces_first, squeezed, words, WordOver, Numeral}
 use Rattle.jobs.specs.declared.cursor.Cursor.{Cursor}
-use Rattle.jobs.specs.declared.cursor.Source.{Source}
 use Rattle.jobs.specs.declared.place.BadText.{BadText}
 use Rattle.jobs.specs.declared.place.Place.{Place}
 use Rattle.jobs.specs.declared.place.Wrong.{Wrong}

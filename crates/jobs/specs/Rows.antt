@@ -2,7 +2,7 @@
 use Rattle.std.specs.Prelude.{◌≡◌, ℕ, ◌≤◌, ◌⊎◌, List, [], ◌∷◌, ◌++◌, length, drop, map, Result, MatchResult}
 use Rattle.std.specs.List.{AllByRecursion, flat_map}
 use Rattle.std.specs.Str.Parse.{AllDigits, digits_value}
-use Rattle.jobs.specs.Faults.{Stands, NextWrong, InText}
+use Rattle.jobs.specs.Faults.{Stands, NextWrong}
 use Rattle.jobs.specs.Places.{After, line_start, past, place_from}
 use Rattle.jobs.specs.Signs.{squeezed}
 use Rattle.jobs.specs.declared.cursor.Cursor.{Cursor}

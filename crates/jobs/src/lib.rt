@@ -13,5 +13,7 @@ pub mod place;
 pub mod row;
 #[cfg(test)]
 mod trials;
+#[cfg(test)]
+mod trials_text;
 pub mod unbuilt;
 pub mod written;

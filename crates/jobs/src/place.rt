@@ -1,5 +1,6 @@
 // What is wrong with the text of a job, and where.
-ghost use Rattle.std.specs.Prelude.{None as Unshown};
+ghost use Rattle.std.specs.Prelude.{◌≡◌, Some as Shown};
+ghost use Rattle.jobs.specs.Told.{bad_text, head_words, place_text, sign_words, wrong_words};
 
 use std::error::Error;
 use std::fmt;
@@ -59,7 +60,9 @@ pub struct BadText {
 }
 
 impl Sign {
-    fn words(self) -> &'static str {
+    fn words(self) -> &'static str
+        ensures { result.now ≡ sign_words self }
+    {
         match self {
             Sign::Open => "'(' belongs here",
             Sign::Comma => "',' belongs here",
@@ -69,7 +72,9 @@ impl Sign {
 }
 
 impl HeadWord {
-    fn words(self) -> &'static str {
+    fn words(self) -> &'static str
+        ensures { result.now ≡ head_words self }
+    {
         match self {
             HeadWord::Yarn => "the head needs a line yarn with a coding",
             HeadWord::Hands => "the head needs a line hands with a coding",
@@ -80,7 +85,9 @@ impl HeadWord {
 }
 
 impl Wrong {
-    fn words(self) -> &'static str {
+    fn words(self) -> &'static str
+        ensures { result.now ≡ wrong_words self }
+    {
         match self {
             Wrong::UnknownName => "a coding is clear, plus, kcipher, chain, turned or narrowed",
             Wrong::NoNumber => "a number from 0 to 18446744073709551615 belongs here",
@@ -99,15 +106,16 @@ impl Wrong {
 }
 
 impl fmt::Display for Place {
-    ghost output = { λ _. Unshown };
+    ghost output = { λ place. Shown (place_text place) };
 
     fn fmt<W: fmt::Write>(&self, f: &mut fmt::Formatter<W>) -> fmt::Result {
-        write!(f, "line {} column {}", self.line, self.column)
+        let (line, column) = (self.line, self.column);
+        write!(f, "line {line} column {column}")
     }
 }
 
 impl fmt::Display for BadText {
-    ghost output = { λ _. Unshown };
+    ghost output = { λ e. Shown (bad_text e) };
 
     fn fmt<W: fmt::Write>(&self, f: &mut fmt::Formatter<W>) -> fmt::Result {
         write!(f, "{}: {}", self.place, self.wrong.words())

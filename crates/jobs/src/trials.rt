@@ -1,4 +1,4 @@
-// What no clause says: that right texts are taken, which fault a wrong one has and where, and what is printed.
+// That right texts are taken, which fault a wrong one has, and what is printed.
 use crate::build::build;
 use crate::job::{Step, read_head, read_step};
 use crate::parse::parse_written;
