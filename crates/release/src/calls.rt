@@ -51,6 +51,7 @@ impl<S> Release<S> {
 
 impl Release<Open> {
     // Opens a release with a column for each role letter over all of the row memory, which it sets to zero.
+    #[tactic(auto, using(crate::proofs::Done::opened))]
     pub fn open(letters: &[char], memory: &mut [Row]) -> Result<Release<Open>, Refusal>
         ensures { Opened letters.now memory.old (plain_of result) memory.new }
     {

@@ -1,8 +1,8 @@
 // Lists of calls on a release, with the whole promise in contract.
-ghost use Rattle.std.specs.Prelude.{◌≡◌, ◌+◌, ◌≤◌, [], map, length, vec_len, vec_capacity, IfOk, IfErr, MatchResult};
+ghost use Rattle.std.specs.Prelude.{◌≡◌, ◌≤◌, [], map, length, vec_capacity, IfOk, IfErr, MatchResult};
 ghost use Rattle.release.specs.Handed.{ListMade};
 ghost use Rattle.release.specs.Listed.{asked_of};
-ghost use Rattle.release.specs.Promises.{ListDone, RanFrom, UnopenedBy};
+ghost use Rattle.release.specs.Promises.{RanFrom, UnopenedBy};
 ghost use Rattle.release.specs.Views.{meanings_of};
 
 use crate::column_codings::ColumnCodings;
