@@ -98,7 +98,7 @@ impl Found {
         // A match, since a closure under `map_err` would ask for its own clause on the fault.
         match Order::new(self.size_of(name), list) {
             Ok(_) => Ok(list),
-            Err(fault) => Err(cursor.fault(Reason::NoOrder(fault.place))),
+            Err(fault) => Err(cursor.fault(fault.into())),
         }
     }
 

@@ -11,9 +11,13 @@ use Rattle.spelling.specs.declared.fault.Reason.{Reason}
 use Rattle.spelling.specs.declared.fault.Reason.TheVariants.{BadWidth, Missing, GoesOn}
 use Rattle.spelling.specs.Reading.{Reading, Turn, More, Done}
 use Rattle.spelling.specs.Commands.{part_operands}
-use Rattle.spelling.specs.Turns.{operand, part_fault, put_part, with_width, complete, ask, after, turn, Good}
+use Rattle.spelling.specs.Turns.{operand, part_fault, put_part, with_width, complete, ask, after, turn}
 use Rattle.spelling.specs.Steps.{noted}
 use Rattle.spelling.proofs.Turning.{ask_ok, Asked, asked}
+
+-- After the first command the width is one of 24 to 64.
+abbrev pub Good : Reading → Type 0
+Good s = 0 < s.at → (24 ≤ s.parts.width) × (s.parts.width ≤ 64)
 
 -- what a turn that goes on after W has found
 pub record Widened (bytes : List ℕ) (s next : Reading) : Type 0 where

@@ -3,8 +3,8 @@ use Rattle.std.proofs.Common.{◌≡◌, ℕ, zero, suc, ◌+◌, ◌<◌, ◌�
 use Rattle.spelling.specs.declared.fault.Fault.{Fault}
 use Rattle.spelling.specs.declared.parts.Parts.{Parts}
 use Rattle.spelling.specs.Reading.{Reading, More, Done}
-use Rattle.spelling.specs.Turns.{Good, start, turn}
-use Rattle.spelling.proofs.Advancing.{advances}
+use Rattle.spelling.specs.Turns.{start, turn}
+use Rattle.spelling.proofs.Advancing.{Good, advances}
 use Rattle.spelling.proofs.Running.{run, read_parts, run_fails, run_ends, run_goes}
 
 pub record Kept (bytes : List ℕ) (s : Reading) : Type 0 where

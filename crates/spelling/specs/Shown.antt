@@ -4,13 +4,13 @@ use Rattle.std.specs.Fmt.{decimal}
 use Rattle.spelling.specs.declared.parts.Parts.{Parts}
 use Rattle.spelling.specs.Flows.{name_of}
 
--- One place of an order, behind the ones before it.
-abbrev pub place_text : ℕ → List ℕ
-place_text place = codes " " ++ decimal place
+-- One entry of an order's list, behind the ones before it.
+abbrev pub entry_text : ℕ → List ℕ
+entry_text place = codes " " ++ decimal place
 
 -- The order k by its places.
 abbrev pub order_text : ℕ → List ℕ → List ℕ
-order_text k places = codes "\norder " ++ (decimal k ++ (codes ":" ++ flat_map place_text places))
+order_text k places = codes "\norder " ++ (decimal k ++ (codes ":" ++ flat_map entry_text places))
 
 -- Some orders, from k on, each by the places that count.
 abbrev pub orders_text : ℕ → ℕ → List (List ℕ) → List ℕ
@@ -21,7 +21,7 @@ orders_text k size (list ∷ lists) = order_text k (take size list) ++ orders_te
 abbrev pub c1_text : Parts → List ℕ
 c1_text p = cond (nat_lt 32 p.width) (codes "\nC1 " ++ decimal p.c1) []
 
--- and the orders 4 and 5, of 64 bits, have theirs
+-- Above 32 bits the orders 4 and 5, of 64 bits, have a line each.
 abbrev pub wide_orders_text : Parts → List ℕ
 wide_orders_text p = cond (nat_lt 32 p.width) (orders_text 4 64 (drop 4 p.orders)) []
 

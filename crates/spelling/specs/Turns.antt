@@ -1,6 +1,6 @@
 -- The code's own steps: one command of a draft, the questions in their sequence, of which the first no decides, and what it
 -- leads to.
-use Rattle.std.specs.Prelude.{ℕ, zero, suc, ◌+◌, ◌^◌, ◌<◌, ◌≤◌, Bool, true, false, cond, not, ◌&&◌, ◌||◌, List, length, take, drop, replicate, Some, None, Ok, Err, Option, Result, ◌==◌, nat_le, nat_lt, slice_index, slice_index_or, slice_set}
+use Rattle.std.specs.Prelude.{ℕ, zero, suc, ◌+◌, ◌^◌, Bool, true, false, cond, not, ◌&&◌, ◌||◌, List, length, take, drop, replicate, Some, None, Ok, Err, Option, Result, ◌==◌, nat_le, nat_lt, slice_index, slice_index_or, slice_set}
 use Rattle.bits.specs.Orders.{fault_at}
 use Rattle.spelling.specs.declared.parts.Flow.TheVariants.{Flex}
 use Rattle.spelling.specs.declared.parts.Parts.{Parts}
@@ -106,7 +106,3 @@ abbrev pub turn : List ℕ → Reading → Result Turn Fault
 turn bytes s =
     ask (nat_lt s.at (length bytes)) NoByte s.at (
     elim (command_at bytes s.at) [ Err f ↦ Err f | Ok c ↦ given_command bytes s c ])
-
--- After the first command the width is one of 24 to 64.
-abbrev pub Good : Reading → Type 0
-Good s = 0 < s.at → (24 ≤ s.parts.width) × (s.parts.width ≤ 64)

@@ -2,7 +2,9 @@
 ghost use Rattle.std.specs.Prelude.{◌≡◌, Some as Shown};
 ghost use Rattle.std.specs.Fmt.{styled_text};
 ghost use Rattle.spelling.specs.Faults.{number_of, layer_of, place_in, words_of, name_of, line_of};
+ghost use Rattle.spelling.specs.declared.fault.Reason.TheVariants.{NoOrder as OrderFault};
 
+use bits::order::NotAnOrder;
 use std::fmt;
 
 // Where a fault lies: in the bytes, in a command, or in the list of an order.
@@ -93,6 +95,14 @@ impl Reason {
             Reason::Missing => "something needed has not been given",
             Reason::GoesOn => "the draft goes on after Z",
         }
+    }
+}
+
+impl From<NotAnOrder> for Reason {
+    ghost from_gives = { λ fault reason. reason ≡ OrderFault fault.place };
+
+    fn from(fault: NotAnOrder) -> Self {
+        Self::NoOrder(fault.place)
     }
 }
 
