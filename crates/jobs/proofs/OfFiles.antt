@@ -14,7 +14,7 @@ use Rattle.jobs.specs.declared.unbuilt.Unbuilt.TheVariants.{Pile}
 cipher_is : (files : Files) (d k : ℕ) (c : KCipher) → OfFiles files d k (λ draft key. CipherOf draft key c) → (l : Leaf)
     → leaf_means l ≡ cipher_means c → IsCipherOf files d k (leaf_means l)
 cipher_is files d k c is l e =
-    record { draft = is.draft; key = is.key; draft_is = is.draft_is; key_is = is.key_is; bytes = (c, is.bytes, e) }
+    record { draft = is.draft; key = is.key; draft_is = is.draft_is; key_is = is.key_is; bytes = record { cipher = c; is = is.bytes; means = e } }
 
 pub leaf_is : (files : Files) (d k : ℕ) (c : KCipher) → OfFiles files d k (λ draft key. CipherOf draft key c) → (r : Result Leaf Unbuilt)
     → MatchResult r (λ l. leaf_means l ≡ cipher_means c) (λ e. e ≡ Pile NoMemory)
@@ -22,4 +22,4 @@ pub leaf_is : (files : Files) (d k : ℕ) (c : KCipher) → OfFiles files d k (�
 leaf_is files d k c is (Ok l) e = cipher_is files d k c is l e
 leaf_is files d k c is (Err e) was =
     rw was
-    (cipher_means c, record { draft = is.draft; key = is.key; draft_is = is.draft_is; key_is = is.key_is; bytes = (c, is.bytes, refl) })
+    (cipher_means c, record { draft = is.draft; key = is.key; draft_is = is.draft_is; key_is = is.key_is; bytes = record { cipher = c; is = is.bytes; means = refl } })

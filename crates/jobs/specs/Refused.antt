@@ -58,8 +58,8 @@ pub record Buildable (files : Files) (w : Written) : Type 0 where
   pub low : height w ≤ highest
 
 -- A leaf is refused, or a layer cannot be laid, and it is the first: of a chain the first part is built before the second, and a
--- layer is laid only once all that is below it was built. So at most one of these reasons holds, but that memory may be wanting
--- at any layer, and for any cipher.
+-- layer is laid only once all that is below it was built. So no later reason is told, but memory may be wanting at any layer that
+-- may be laid, and for any cipher.
 abbrev pub Refused : Files → Written → Unbuilt → Type 0
 Refused files (Clear t) e = ⊥
 Refused files (Plus t k) e = PlusRefused t k e

@@ -19,9 +19,11 @@ pub record CipherOf (draft key : List ℕ) (c : KCipher) : Type 0 where
   pub spelt : TheDraft draft parts
   pub accepted : Accepted parts key 24 c
 
--- What an accepted cipher of the bytes means.
-abbrev pub CipherMeans : (draft key : List ℕ) → Meaning → Type 0
-CipherMeans draft key m = (c : KCipher) × CipherOf draft key c × (m ≡ cipher_means c)
+-- The bytes make an accepted cipher, and this is what it means.
+pub record CipherMeans (draft key : List ℕ) (m : Meaning) : Type 0 where
+  pub cipher : KCipher
+  pub is : CipherOf draft key cipher
+  pub means : m ≡ cipher_means cipher
 
 -- Why the bytes make no cipher: the draft's fault, which is the only one; or a draft is spelt, and this is the first no of what is asked of
 -- the key.
