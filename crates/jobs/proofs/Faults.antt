@@ -8,7 +8,7 @@ use Rattle.std.specs.Prelude.{IsAscii, IsUtf8}
 use Rattle.std.specs.Str.Parse.{AllDigits, IsNumeral, digits_value, without_leading_plus}
 use Rattle.jobs.specs.Faults.{Blames, InText, Stands, WordIs, WrongAt}
 use Rattle.jobs.specs.Places.{After, First, IsOn, SignBetween, WordBetween, bad_at, blamed, first_place, left_of, line_start, past, place_from, place_of}
-use Rattle.jobs.specs.Signs.{ends_word, spaces_first, squeezed, Flush, IsNoNumber, WordOver}
+use Rattle.jobs.specs.Signs.{ends_word, spaces_first, Flush, IsNoNumber, WordOver}
 use Rattle.jobs.specs.declared.cursor.Cursor.{Cursor}
 use Rattle.jobs.specs.declared.cursor.Source.{Source}
 use Rattle.jobs.specs.declared.place.BadText.{BadText}
@@ -83,7 +83,7 @@ wrong_at s text start e bytes begins h = record {
   stands = subst (λ z. Stands e.wrong (drop h.at z)) bytes h.stands;
 }
 
-begins_at : (p : Place) (number : ℕ) → p.line ≡ number → p.column ≡ 1 → p ≡ line_start number
+pub begins_at : (p : Place) (number : ℕ) → p.line ≡ number → p.column ≡ 1 → p ≡ line_start number
 begins_at p number line column = rw (line, column) refl
 
 pub wrong_on : (line : List ℕ) (number : ℕ) (c d : Cursor) (e : BadText) → IsOn line number c d → InText d.source e → WrongAt line (line_start number) e

@@ -1,5 +1,5 @@
 -- A row that is read field by field.
-use Rattle.std.proofs.Common.{◌≡◌, ℕ, suc, ◌+◌, ◌<◌, ◌≤◌, false, List, [], ◌∷◌, ◌++◌, Ok, Err, Result, MatchResult, IfOk, IfErr, length, drop, map, refl, ap, sym, subst, ◌∙◌, append_assoc, append-nil, length-append, inl, inr, arith}
+use Rattle.std.proofs.Common.{◌≡◌, ℕ, suc, ◌+◌, ◌<◌, false, List, [], ◌∷◌, ◌++◌, Ok, Err, Result, MatchResult, IfOk, IfErr, length, drop, map, refl, ap, sym, subst, ◌∙◌, append_assoc, append-nil, length-append, inl, inr, arith}
 use Rattle.std.proofs.lemmas.List.{flat_map_more, map_push}
 use Rattle.std.specs.List.{AllByRecursion, flat_map}
 use Rattle.std.specs.Str.Parse.{AllDigits, digits_value}
@@ -7,7 +7,7 @@ use Rattle.jobs.specs.Faults.{Blames, NextWrong, NotFirst}
 use Rattle.jobs.proofs.Faults.{left_past}
 use Rattle.jobs.specs.Places.{After, NumberRead, SignBetween, SignPast, WordBetween, bad_at, blamed, left_of, line_start, next_at, past, place_from, rest_of}
 use Rattle.jobs.specs.Rows.{Row, RowStands, RowWrong, FieldBetween, FieldsBetween, FieldRead, FieldWrong, Continues}
-use Rattle.jobs.specs.Signs.{ends_word, spaces_first, squeezed, Flush}
+use Rattle.jobs.specs.Signs.{ends_word}
 use Rattle.jobs.specs.declared.cursor.Cursor.{Cursor}
 use Rattle.jobs.specs.declared.cursor.Source.{Source}
 use Rattle.jobs.specs.declared.place.BadText.{BadText}

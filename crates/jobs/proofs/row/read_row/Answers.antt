@@ -1,7 +1,7 @@
-use Rattle.std.proofs.Common.{◌≡◌, [], ◌∷◌, ◌++◌, ap, sym, subst, refl, ◌∙◌, drop}
+use Rattle.std.proofs.Common.{◌≡◌, [], ◌∷◌, ◌++◌, ap, sym, subst, ◌∙◌, drop}
 use Rattle.std.proofs.lemmas.Result.{err_from_is_err_and}
-use Rattle.jobs.specs.Places.{rest_of, left_of}
-use Rattle.jobs.specs.Rows.{Row, RowStands}
+use Rattle.jobs.specs.Places.{rest_of}
+use Rattle.jobs.specs.Rows.{Row}
 use Rattle.jobs.specs.Signs.{squeezed}
 use Rattle.jobs.specs.declared.cursor.Source.{Source}
 use Rattle.jobs.proofs.Rowing.{so_far_all, so_far_more, after_self, OfLine, Stood, stood_more, stood_all, field_wrong, comma_wrong, row_memory}
