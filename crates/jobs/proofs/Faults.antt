@@ -1,5 +1,5 @@
 -- Where a text is wrong.
-use Rattle.std.proofs.Common.{◌≡◌, ℕ, zero, suc, ◌^◌, ◌<◌, ◌≤◌, ◌⊎◌, false, List, [], ◌∷◌, ◌++◌, length, drop, get_or, refl, ap, sym, subst, ◌∙◌, inl, inr, arith}
+use Rattle.std.proofs.Common.{◌≡◌, ℕ, zero, suc, ◌+◌, ◌^◌, ◌<◌, ◌≤◌, ◌⊎◌, false, List, [], ◌∷◌, ◌++◌, length, drop, get_or, refl, ap, sym, subst, ◌∙◌, inl, inr, arith}
 use Rattle.std.proofs.lemmas.Bool.{cases_lt}
 use Rattle.std.proofs.lemmas.Str.{IsUtf8-from_ascii}
 use Rattle.std.proofs.lemmas.Str.Parse.{digit_from_value, without_leading_plus_none}
@@ -7,8 +7,8 @@ use Rattle.std.specs.List.{AllByRecursion}
 use Rattle.std.specs.Prelude.{IsAscii, IsUtf8}
 use Rattle.std.specs.Str.Parse.{AllDigits, IsNumeral, digits_value, without_leading_plus}
 use Rattle.jobs.specs.Faults.{Blames, InText, Stands, WordIs, WrongAt}
-use Rattle.jobs.specs.Places.{After, IsOn, bad_at, blamed, first_place, left_of, line_start, past, place_from, place_of}
-use Rattle.jobs.specs.Signs.{ends_word, spaces_first, squeezed, Flush, IsNoNumber, WordOver}
+use Rattle.jobs.specs.Places.{After, First, IsOn, SignBetween, WordBetween, bad_at, blamed, first_place, left_of, line_start, past, place_from, place_of}
+use Rattle.jobs.specs.Signs.{ends_word, spaces_first, Flush, IsNoNumber, WordOver}
 use Rattle.jobs.specs.declared.cursor.Cursor.{Cursor}
 use Rattle.jobs.specs.declared.cursor.Source.{Source}
 use Rattle.jobs.specs.declared.place.BadText.{BadText}
@@ -36,7 +36,6 @@ blames c h w e gap at is stands =
       record {
         is = is ∙ ap (λ z. blamed z w) (ap (λ (z : Source). place_from z.start h.at) same ∙ ap (place_from c.source.start) at);
         within = subst (λ k. k ≤ length c.source.bytes.now) at (subst (λ z. h.at ≤ length z) bytes h.within);
-        text = gap.text ∙ ap (λ z. squeezed (drop h.at z)) bytes ∙ ap (λ k. squeezed (drop k c.source.bytes.now)) at;
         stands = subst (λ k. Stands w (drop k c.source.bytes.now)) at (subst (λ z. Stands w (drop h.at z)) bytes stands);
       },
       in_text_at c.source h w e same is stands,
@@ -84,7 +83,7 @@ wrong_at s text start e bytes begins h = record {
   stands = subst (λ z. Stands e.wrong (drop h.at z)) bytes h.stands;
 }
 
-begins_at : (p : Place) (number : ℕ) → p.line ≡ number → p.column ≡ 1 → p ≡ line_start number
+pub begins_at : (p : Place) (number : ℕ) → p.line ≡ number → p.column ≡ 1 → p ≡ line_start number
 begins_at p number line column = rw (line, column) refl
 
 pub wrong_on : (line : List ℕ) (number : ℕ) (c d : Cursor) (e : BadText) → IsOn line number c d → InText d.source e → WrongAt line (line_start number) e
@@ -98,3 +97,26 @@ first_at s h line number same at start left begins =
     let gone : spaces_first (left_of s) ≡ spaces_first line = ap spaces_first left in
     let here : h.at ≡ spaces_first line = omega (arith, at, start, gone) in
     ap (λ (z : Source). place_from z.start h.at) same ∙ ap (λ z. place_from z h.at) begins ∙ ap (place_from (line_start number)) here
+
+-- ---- where a word and a sign stand
+
+-- Past the spaces of one place what is left is what is left at the other.
+pub left_past : (c h : Cursor) → h.source ≡ c.source → h.at ≡ past c → left_of h ≡ drop (past c) c.source.bytes.now
+left_past c h same at = ap (λ (z : Source). drop h.at z.bytes.now) same ∙ ap (λ k. drop k c.source.bytes.now) at
+
+pub word_between : (c h d : Cursor) (w : List ℕ) → h.source ≡ c.source → h.at ≡ past c → left_of h ≡ w ++ left_of d → d.at ≡ h.at + length w
+    → AllByRecursion (λ b. ends_word b ≡ false) w → WordOver (left_of d) → WordBetween c.source.bytes.now c.at w d.at
+word_between c h d w same at is to whole over = record {
+  first = record { rest = left_of d; is = sym (left_past c h same at) ∙ is; whole = whole; over = over };
+  ends = to ∙ ap (λ k. k + length w) at;
+}
+
+pub sign_between : (c h d : Cursor) (b : ℕ) → h.source ≡ c.source → h.at ≡ past c → First b (left_of h) → d.at ≡ h.at + 1 → SignBetween c.source.bytes.now c.at b d.at
+sign_between c h d b same at first to = record {
+  first = subst (First b) (left_past c h same at) first;
+  ends = to ∙ ap (λ k. k + 1) at;
+}
+
+pub first_is : (bs : List ℕ) (b : ℕ) → 0 < length bs → get_or bs 0 0 ≡ b → First b bs
+first_is [] b some e = omega (arith, some)
+first_is (x ∷ bs) b some e = e

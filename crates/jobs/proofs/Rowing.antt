@@ -1,13 +1,13 @@
 -- A row that is read field by field.
-use Rattle.std.proofs.Common.{◌≡◌, ℕ, suc, ◌+◌, ◌<◌, ◌≤◌, false, List, [], ◌∷◌, ◌++◌, Ok, Err, Result, MatchResult, IfOk, IfErr, length, drop, map, refl, ap, sym, subst, ◌∙◌, append_assoc, append-nil, length-append, inl, inr, arith}
+use Rattle.std.proofs.Common.{◌≡◌, ℕ, suc, ◌+◌, ◌<◌, false, List, [], ◌∷◌, ◌++◌, Ok, Err, Result, MatchResult, IfOk, IfErr, length, drop, map, refl, ap, sym, subst, ◌∙◌, append_assoc, append-nil, length-append, inl, inr, arith}
 use Rattle.std.proofs.lemmas.List.{flat_map_more, map_push}
 use Rattle.std.specs.List.{AllByRecursion, flat_map}
 use Rattle.std.specs.Str.Parse.{AllDigits, digits_value}
 use Rattle.jobs.specs.Faults.{Blames, NextWrong, NotFirst}
-use Rattle.jobs.specs.Places.{After, NumberRead, bad_at, blamed, left_of, line_start, past, place_from, rest_of}
-use Rattle.jobs.specs.Rows.{Row, RowWrong, StandsInRow, FieldRead, FieldWrong, Continues}
-use Rattle.jobs.proofs.Squeezed.{spaces_flush}
-use Rattle.jobs.specs.Signs.{ends_word, spaces_first, squeezed, Flush}
+use Rattle.jobs.proofs.Faults.{left_past}
+use Rattle.jobs.specs.Places.{After, NumberRead, SignBetween, SignPast, WordBetween, bad_at, blamed, left_of, line_start, next_at, past, place_from, rest_of}
+use Rattle.jobs.specs.Rows.{Row, RowStands, RowWrong, FieldBetween, FieldsBetween, FieldRead, FieldWrong, Continues}
+use Rattle.jobs.specs.Signs.{ends_word}
 use Rattle.jobs.specs.declared.cursor.Cursor.{Cursor}
 use Rattle.jobs.specs.declared.cursor.Source.{Source}
 use Rattle.jobs.specs.declared.place.BadText.{BadText}
@@ -89,56 +89,90 @@ pub record OfLine (line : List ℕ) (number : ℕ) (s : Source) : Type 0 where
   pub bytes : s.bytes.now ≡ line
   pub start : s.start ≡ line_start number
 
-row_wrong : (line : List ℕ) (number : ℕ) (s : Source) (fields : List (List ℕ)) (w : Wrong) (at : ℕ) (e : BadText) → OfLine line number s
-    → AllByRecursion (AllDigits 10) fields → at ≤ length s.bytes.now → e ≡ blamed (place_from s.start at) w
-    → StandsInRow w fields (squeezed line) (drop at s.bytes.now) → RowWrong line number e
-row_wrong line number s fields w at e of digits within is stands = record {
-  fields = fields;
-  digits = digits;
-  at = at;
-  within = subst (λ z. at ≤ length z) of.bytes within;
-  place = ap (λ (z : BadText). z.place) is ∙ ap (λ z. place_from z at) of.start;
-  stands = subst (λ z. StandsInRow z fields (squeezed line) (drop at line)) (sym (ap (λ (z : BadText). z.wrong) is))
-      (subst (λ z. StandsInRow w fields (squeezed line) (drop at z)) of.bytes stands);
+-- one field more, and a comma
+pub fields_more : (line : List ℕ) (from : ℕ) (ns : List ℕ) (a n end next : ℕ) → FieldsBetween line from ns a → FieldBetween line a n end → SignBetween line end 44 next
+    → FieldsBetween line from (ns ++ (n ∷ [])) next
+fields_more line from [] a n end next here field comma = (end, next, subst (λ k. FieldBetween line k n end) here field, comma, refl)
+fields_more line from (m ∷ ns) a n end next (e, k, f, s, more) field comma = (e, k, f, s, fields_more line k ns a n end next more field comma)
+
+-- A field and a sign that were read stand on the line.
+pub field_on : (line : List ℕ) (c d : Cursor) (n : ℕ) → c.source.bytes.now ≡ line → FieldRead c d n → FieldBetween line c.at n d.at
+field_on line c d n bytes f = (f.text, subst (λ z. WordBetween z c.at f.text d.at) bytes f.between, f.digits, f.value)
+
+-- What was read before a place, by where it stands.
+abbrev pub Stood : List ℕ → List ℕ → Cursor → Type 0
+Stood line numbers c = FieldsBetween line 0 numbers c.at
+
+pub stood_more : (line : List ℕ) (numbers after : List ℕ) (c d f : Cursor) (n : ℕ) → c.source.bytes.now ≡ line → Stood line numbers c → FieldRead c d n
+    → d.source ≡ c.source → SignPast d Comma f → after ≡ numbers ++ (n ∷ []) → Stood line after f
+stood_more line numbers after c d f n bytes before field same comma push =
+    let sign : SignBetween line d.at 44 f.at = subst (λ z. SignBetween z d.at 44 f.at) (ap (λ (z : Source). z.bytes.now) same ∙ bytes) comma in
+    subst (λ z. FieldsBetween line 0 z f.at) (sym push) (fields_more line 0 numbers c.at n d.at f.at before (field_on line c d n bytes field) sign)
+
+pub stood_all : (line : List ℕ) (number : ℕ) (numbers after : List ℕ) (c d h : Cursor) (n : ℕ) → OfLine line number c.source → Stood line numbers c → FieldRead c d n
+    → d.source ≡ c.source → h.source ≡ d.source → h.at ≡ past d → left_of h ≡ [] → after ≡ numbers ++ (n ∷ []) → RowStands line after
+stood_all line number numbers after c d h n of before field same gone at end push = record {
+  before = numbers;
+  last = n;
+  is = push;
+  from = c.at;
+  fields = before;
+  to = d.at;
+  field = field_on line c d n of.bytes field;
+  end = subst (λ z. drop (next_at z d.at) z ≡ []) (ap (λ (z : Source). z.bytes.now) same ∙ of.bytes) (sym (left_past d h gone at) ∙ end);
 }
 
-pub field_wrong : (line : List ℕ) (number : ℕ) (numbers : List ℕ) (c : Cursor) (e : BadText) → OfLine line number c.source → SoFar (squeezed line) numbers c
-    → FieldWrong c e → RowWrong line number e
-field_wrong line number numbers c e of h f =
-    row_wrong line number c.source h.fields NoNumber (past c) e of h.digits f.next.within f.next.is
-    (inl (refl, h.is ∙ ap (λ z. flat_map (λ g. g ++ (44 ∷ [])) h.fields ++ z) f.next.text, f.next.stands, f.continues))
+-- What is wrong with the text is wrong with the line.
+next_on : (line : List ℕ) (number : ℕ) (s : Source) (from : ℕ) (w : Wrong) (e : BadText) → OfLine line number s → NextWrong s.bytes.now s.start from w e
+    → NextWrong line (line_start number) from w e
+next_on line number s from w e of h = subst (λ z. NextWrong z (line_start number) from w e) of.bytes (subst (λ z. NextWrong s.bytes.now z from w e) of.start h)
 
-pub comma_wrong : (line : List ℕ) (number : ℕ) (numbers : List ℕ) (c d h : Cursor) (n : ℕ) (e : BadText) → OfLine line number h.source → SoFar (squeezed line) numbers c
-    → FieldRead c d n → After d h [] → (drop (past h) h.source.bytes.now ≡ [] → ⊥) → NextWrong h (MissingSign Comma) e → RowWrong line number e
-comma_wrong line number numbers c d h n e of before field gap some wrong =
-    row_wrong line number h.source before.fields (MissingSign Comma) (past h) e of before.digits wrong.within wrong.is
-    (inr (inl (
-      refl,
-      (
-        field.text,
-        field.digits,
-        before.is ∙ ap (λ z. flat_map (λ g. g ++ (44 ∷ [])) before.fields ++ z) (field.after.text ∙ ap (λ z. field.text ++ z) (gap.text ∙ wrong.text)),
-        sign_continues _ wrong.stands.1 some,
-      ),
-      wrong.stands,
-    )))
+pub field_wrong : (line : List ℕ) (number : ℕ) (numbers : List ℕ) (c : Cursor) (e : BadText) → OfLine line number c.source → Stood line numbers c → FieldWrong c e
+    → RowWrong line number e
+field_wrong line number numbers c e of before f = record {
+  before = numbers;
+  from = c.at;
+  fields = before;
+  fault = inl (next_on line number c.source c.at NoNumber e of f.next, subst (λ z. Continues (drop (next_at z c.at) z)) of.bytes f.continues);
+}
 
-pub row_memory : (line : List ℕ) (number : ℕ) (numbers : List ℕ) (c : Cursor) (e : BadText) → OfLine line number c.source → SoFar (squeezed line) numbers c
-    → e ≡ bad_at c NoMemory → RowWrong line number e
-row_memory line number numbers c e of h is = row_wrong line number c.source h.fields NoMemory c.at e of h.digits c.within is (inr (inr (refl, h.is)))
+pub comma_wrong : (line : List ℕ) (number : ℕ) (numbers : List ℕ) (c d h : Cursor) (n : ℕ) (e : BadText) → OfLine line number c.source → Stood line numbers c
+    → FieldRead c d n → d.source ≡ c.source → h.source ≡ d.source → h.at ≡ past d → (left_of h ≡ [] → ⊥) → NextWrong d.source.bytes.now d.source.start d.at (MissingSign Comma) e
+    → RowWrong line number e
+comma_wrong line number numbers c d h n e of before field same gone at some wrong =
+    let there : OfLine line number d.source = subst (OfLine line number) (sym same) of in
+    let more : Continues (drop (past d) d.source.bytes.now) =
+    sign_continues _ wrong.stands.1 (λ none. some (left_past d h gone at ∙ none)) in
+    record {
+      before = numbers;
+      from = c.at;
+      fields = before;
+      fault = inr (inl (
+        n,
+        d.at,
+        field_on line c d n of.bytes field,
+        next_on line number d.source d.at (MissingSign Comma) e there wrong,
+        subst (λ z. Continues (drop (next_at z d.at) z)) there.bytes more,
+      ));
+    }
+
+pub row_memory : (line : List ℕ) (number : ℕ) (numbers : List ℕ) (c : Cursor) (e : BadText) → OfLine line number c.source → Stood line numbers c → e ≡ bad_at c NoMemory
+    → RowWrong line number e
+row_memory line number numbers c e of before is = record {
+  before = numbers;
+  from = c.at;
+  fields = before;
+  fault = inr (inr (is ∙ ap (λ z. blamed (place_from z c.at) NoMemory) of.start));
+}
+
+pub after_self : (c : Cursor) → After c c []
+after_self c = record { same = refl; text = refl }
 
 -- A field that begins with a word is its number, or none.
 pub field_number : (c h d : Cursor) (w : List ℕ) (r : Result (ℕ × Cursor) BadText) → IfOk r (λ p. NumberRead c p.1 p.0) → IfErr r (Blames c NoNumber) → After c h []
     → h.at ≡ past c → left_of h ≡ w ++ left_of d → AllByRecursion (λ b. ends_word b ≡ false) w → 0 < length w → MatchResult r (λ p. FieldRead c p.1 p.0) (FieldWrong c)
-field_number c h d w (Ok p) read fault gap at is whole some = record { text = read.digits; after = read.word.after; digits = read.number.0.1; value = read.number.1 }
+field_number c h d w (Ok p) read fault gap at is whole some = record { text = read.digits; after = read.word.after; between = read.word.between; digits = read.number.0.1; value = read.number.1 }
 field_number c h d w (Err e) read fault gap at is whole some =
     let here : left_of h ≡ drop (past c) c.source.bytes.now =
     ap (λ (z : Source). drop h.at z.bytes.now) gap.same ∙ ap (λ k. drop k c.source.bytes.now) at in
     record { next = fault.0; continues = subst Continues here (word_continues (left_of h) w (left_of d) is whole some) }
-
--- What is left where no space comes first is left past the spaces.
-pub left_behind : (h : Cursor) → Flush (left_of h) → (left_of h ≡ [] → ⊥) → drop (past h) h.source.bytes.now ≡ [] → ⊥
-left_behind h flush some e =
-    let none : spaces_first (left_of h) ≡ 0 = spaces_flush (left_of h) flush in
-    let here : past h ≡ h.at = omega (arith, none) in
-    some (subst (λ k. drop k h.source.bytes.now ≡ []) here e)

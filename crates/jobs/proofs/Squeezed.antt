@@ -48,6 +48,9 @@ past_sign_at bs i s low e =
 pub at_the_end : (bs : List ℕ) (i : ℕ) → (i == length bs) ≡ true → squeezed (drop i bs) ≡ []
 at_the_end bs i e = ap (λ k. squeezed (drop k bs)) (eqb-true i (length bs) e) ∙ ap squeezed (drop-length bs) ∙ squeezed_nil
 
+pub none_left : (bs : List ℕ) (i : ℕ) → (i == length bs) ≡ true → drop i bs ≡ []
+none_left bs i e = ap (λ k. drop k bs) (eqb-true i (length bs) e) ∙ drop-length bs
+
 pub filled : (n : ℕ) → (n == 0) ≡ false → 0 < n
 filled zero e = cc
 filled (suc n) e = omega arith

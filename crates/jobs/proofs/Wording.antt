@@ -7,7 +7,8 @@ use Rattle.std.proofs.lemmas.List.Splits.{slice_split-cons_yes, slice_split-cons
 use Rattle.std.specs.List.{AllByRecursion, filter, slice_split, onto_first}
 use Rattle.std.specs.Prelude.{slice_index}
 use Rattle.jobs.proofs.Squeezed.{squeezed_cons, from_next}
-use Rattle.jobs.specs.Places.{After, NextWord, left_of, rest_of, words_left}
+use Rattle.jobs.proofs.Faults.{word_between}
+use Rattle.jobs.specs.Places.{After, NextWord, past, left_of, rest_of, words_left}
 use Rattle.jobs.specs.Signs.{is_space, ends_word, not_empty, squeezed, words, WordOver, Flush, Apart}
 use Rattle.jobs.specs.Steps.{Operands, Speaks, Unknown, StepSaid, WordRead, step_text, word_of, word_text}
 use Rattle.jobs.specs.declared.cursor.Cursor.{Cursor}
@@ -89,10 +90,11 @@ over_at bs i low e = subst WordOver (sym (from_next bs i low)) e
 pub over_end : (bs : List ℕ) (i : ℕ) → i ≡ length bs → WordOver (drop i bs)
 over_end bs i e = subst WordOver (sym (ap (λ k. drop k bs) e ∙ drop-length bs)) tt
 
-pub next_word : (c h d : Cursor) (w : List ℕ) → After c h [] → words_left h ≡ words_left c → After h d w → left_of h ≡ w ++ left_of d
-    → AllByRecursion (λ b. ends_word b ≡ false) w → WordOver (left_of d) → 0 < length w → NextWord c d w
-next_word c h d w gap apart q is whole over some = record {
+pub next_word : (c h d : Cursor) (w : List ℕ) → After c h [] → h.at ≡ past c → words_left h ≡ words_left c → After h d w → d.at ≡ h.at + length w
+    → left_of h ≡ w ++ left_of d → AllByRecursion (λ b. ends_word b ≡ false) w → WordOver (left_of d) → 0 < length w → NextWord c d w
+next_word c h d w gap at apart q to is whole over some = record {
   after = record { same = q.same ∙ gap.same; text = gap.text ∙ q.text };
+  between = word_between c h d w gap.same at is to whole over;
   same_words = sym apart ∙ ap words is;
   some = some;
   whole = whole;

@@ -1,7 +1,7 @@
 -- What stands where a text is wrong.
 use Rattle.std.specs.Prelude.{◌≡◌, ℕ, ◌≤◌, List, [], ◌∷◌, length, drop, Result, MatchResult}
 use Rattle.jobs.specs.Parsed.{Said, form_name}
-use Rattle.jobs.specs.Places.{blamed, past, place_from, rest_of}
+use Rattle.jobs.specs.Places.{blamed, next_at, place_from}
 use Rattle.jobs.specs.Signs.{code_of, squeezed, FirstWord, Flush, IsNoName, IsNoNumber}
 use Rattle.jobs.specs.declared.cursor.Cursor.{Cursor}
 use Rattle.jobs.specs.declared.cursor.Source.{Source}
@@ -53,15 +53,14 @@ pub record InText (s : Source) (e : BadText) : Type 0 where
   pub place : e.place ≡ place_from s.start at
   pub stands : Stands e.wrong (drop at s.bytes.now)
 
--- The next byte that is no space is where this is wrong.
-pub record NextWrong (c : Cursor) (w : Wrong) (e : BadText) : Type 0 where
-  pub is : e ≡ blamed (place_from c.source.start (past c)) w
-  pub within : past c ≤ length c.source.bytes.now
-  pub text : rest_of c ≡ squeezed (drop (past c) c.source.bytes.now)
-  pub stands : Stands w (drop (past c) c.source.bytes.now)
+-- From so many bytes of a text on, the next byte that is no space is where this is wrong.
+pub record NextWrong (text : List ℕ) (start : Place) (from : ℕ) (w : Wrong) (e : BadText) : Type 0 where
+  pub is : e ≡ blamed (place_from start (next_at text from)) w
+  pub within : next_at text from ≤ length text
+  pub stands : Stands w (drop (next_at text from) text)
 
 abbrev pub Blames : Cursor → Wrong → BadText → Type 0
-Blames c w e = NextWrong c w e × InText c.source e
+Blames c w e = NextWrong c.source.bytes.now c.source.start c.at w e × InText c.source e
 
 -- A text is a pile, or wrong at a place.
 abbrev pub Parses : List (List ℕ) → ℕ → List ℕ → Place → Result Written BadText → Type 0

@@ -92,7 +92,7 @@ impl<'a> Source<'a> {
 impl<'a> Cursor<'a> {
     ghost use Rattle.std.specs.Prelude.{◌+◌, ◌==◌, [], ◌∷◌, IfErr, IfOk, MatchResult};
     ghost use Rattle.jobs.specs.Faults.{Blames, NotFirst};
-    ghost use Rattle.jobs.specs.Places.{After, NextWord, NumberRead, bad_at, left_of, past as past_of, place_of, rest_of, words_left};
+    ghost use Rattle.jobs.specs.Places.{After, First, NextWord, NumberRead, SignPast, bad_at, left_of, past as past_of, place_of, rest_of, words_left};
     ghost use Rattle.jobs.specs.declared.place.Wrong.TheVariants.{GoesOn, MissingSign, NoName, NoNumber};
 
     pub(crate) fn new(source: Source<'a>) -> Cursor<'a>
@@ -168,6 +168,7 @@ impl<'a> Cursor<'a> {
     // The word that starts here, which may be empty, and where it ends.
     pub(crate) fn word(self) -> (&'a [u8], Cursor<'a>)
         ensures after { After self.entry result.1 result.0.now }
+        ensures at { result.1.at ≡ self.entry.at + length result.0.now }
         ensures is { left_of self.entry ≡ result.0.now ++ left_of result.1 }
         ensures whole { AllByRecursion (λ b. ends_word b ≡ false) result.0.now }
         ensures over { WordOver (left_of result.1) }
@@ -180,6 +181,7 @@ impl<'a> Cursor<'a> {
     // The next byte, which is this sign.
     fn past_byte(self, sign: Sign) -> Result<Cursor<'a>, BadText>
         ensures read { IfOk result (λ c. After self.entry c (code_of sign ∷ [])) }
+        ensures on { IfOk result (λ c. (c.at ≡ self.entry.at + 1) × First (code_of sign) (left_of self.entry)) }
         ensures fault { IfErr result (λ e. e ≡ bad_at self.entry (MissingSign sign)) }
         ensures absent { IfErr result (λ _. NotFirst (code_of sign) (left_of self.entry)) }
     {
@@ -194,6 +196,7 @@ impl<'a> Cursor<'a> {
     // Past spaces and this sign.
     pub(crate) fn past_sign(self, sign: Sign) -> Result<Cursor<'a>, BadText>
         ensures read { IfOk result (λ c. After self.entry c (code_of sign ∷ [])) }
+        ensures on { IfOk result (SignPast self.entry sign) }
         ensures fault { IfErr result (Blames self.entry (MissingSign sign)) }
     {
         self.past_spaces().past_byte(sign)

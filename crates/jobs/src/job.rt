@@ -9,7 +9,7 @@ ghost use Rattle.jobs.specs.declared.place.Wrong.TheVariants.{MissingLine};
 ghost use Rattle.jobs.specs.Faults.{InText};
 ghost use Rattle.jobs.specs.Places.{blamed, left_of, line_start, words_left};
 ghost use Rattle.jobs.specs.Signs.{words, WordOver, Apart};
-ghost use Rattle.jobs.specs.Steps.{BeginsWith, NoWord, Says, StepWrong, Operands, IsEntry, IsRow, word_text, word_of};
+ghost use Rattle.jobs.specs.Steps.{BeginsWith, NoWord, Says, StepWrong, StepRead, OneName, OneRow, OneEntry, OperandsBlamed, operands_of, a_name, a_number, word_text};
 
 use crate::cursor::{Cursor, Source};
 use crate::parse::whole;
@@ -133,7 +133,8 @@ pub fn read_step(line: &str, number: usize) -> Result<Option<Step<'_>>, BadText>
 // The step of this word, whose operands stand after it.
 fn step_of(word: StepWord, after: Cursor<'_>) -> Result<Step<'_>, BadText>
     requires over { WordOver (left_of after) }
-    ensures { MatchResult result (λ step. (word_of step ≡ word) × Apart (left_of after.entry) × Operands (words_left after.entry) step) (λ e. InText after.entry.source e) }
+    ensures read { IfOk result (StepRead word after.entry) }
+    ensures wrong { IfErr result (OperandsBlamed (operands_of word) after.entry) }
 {
     match word {
         StepWord::Rows => Ok(Step::Rows(file_of(after)?)),
@@ -149,27 +150,33 @@ fn step_of(word: StepWord, after: Cursor<'_>) -> Result<Step<'_>, BadText>
     }
 }
 
+#[tactic(auto, using(crate::proofs::Operands::no_name, crate::proofs::Operands::past_name))]
 fn file_of(after: Cursor<'_>) -> Result<&str, BadText>
     requires over { WordOver (left_of after) }
-    ensures { MatchResult result (λ name. Apart (left_of after.entry) × (words_left after.entry ≡ name.now ∷ [])) (λ e. InText after.entry.source e) }
+    ensures read { IfOk result (λ s. OneName after.entry s.now) }
+    ensures wrong { IfErr result (OperandsBlamed (a_name ∷ []) after.entry) }
 {
     let (name, after) = after.name()?;
     after.finish()?;
     Ok(name)
 }
 
+#[tactic(auto, using(crate::proofs::Operands::no_number, crate::proofs::Operands::past_number))]
 fn row_of(after: Cursor<'_>) -> Result<usize, BadText>
     requires over { WordOver (left_of after) }
-    ensures { MatchResult result (λ row. Apart (left_of after.entry) × IsRow (words_left after.entry) row) (λ e. InText after.entry.source e) }
+    ensures read { IfOk result (OneRow after.entry) }
+    ensures wrong { IfErr result (OperandsBlamed (a_number ∷ []) after.entry) }
 {
     let (row, after) = after.count()?;
     after.finish()?;
     Ok(row)
 }
 
+#[tactic(auto, using(crate::proofs::Operands::no_number, crate::proofs::Operands::past_number))]
 fn entry_of(after: Cursor<'_>) -> Result<Entry, BadText>
     requires over { WordOver (left_of after) }
-    ensures { MatchResult result (λ entry. Apart (left_of after.entry) × IsEntry (words_left after.entry) entry) (λ e. InText after.entry.source e) }
+    ensures read { IfOk result (OneEntry after.entry) }
+    ensures wrong { IfErr result (OperandsBlamed (a_number ∷ a_number ∷ []) after.entry) }
 {
     let (row, after) = after.count()?;
     let (column, after) = after.count()?;

@@ -21,11 +21,10 @@ pub fn read_row(line: &str, number: usize, numbers: &mut Vec<u64>) -> Result<(),
         if numbers.push(next).is_err() {
             return Err(cursor.bad(Wrong::NoMemory));
         }
-        let end = after.past_spaces();
-        if end.is_end() {
+        if after.past_spaces().is_end() {
             return Ok(());
         }
-        cursor = end.past_sign(Sign::Comma)?;
+        cursor = after.past_sign(Sign::Comma)?;
     }
 }
 

@@ -5,8 +5,8 @@ use Rattle.jobs.specs.declared.cursor.Source.{Source}
 use Rattle.jobs.specs.declared.place.Place.{Place}
 use Rattle.jobs.proofs.Squeezed.{at_the_end}
 use Rattle.jobs.proofs.Wording.{first_word, word_text_some, left_some, no_bytes, speaks, unknown}
-use Rattle.jobs.proofs.Faults.{first_at}
-use Rattle.jobs.specs.Places.{blamed}
+use Rattle.jobs.proofs.Faults.{first_at, word_between}
+use Rattle.jobs.specs.Places.{blamed, WordBetween}
 use Rattle.jobs.specs.declared.place.Wrong.TheVariants.{UnknownWord}
 use Rattle.jobs.proofs.job.word_line.Goals as goal
 use Rattle.jobs.proofs.job.word_line.Goals.{else-not-is_empty-via-then-not-is_empty+else-word-eq35, else-not-is_empty-via-else-not-is_empty}
@@ -44,6 +44,10 @@ returns-in-Some c =
         first = first_at start here c.args.line.now c.args.number gap.after.same gap.at c.new-2.ensures.at line (ap (λ (z : Source). z.start) c.new-2.ensures.source ∙ c.new.ensures.start);
         same = word.after.same;
       };
+      between = subst (λ z. WordBetween c.args.line.now 0 z c.word.result.1.at) named
+          (subst (λ z. WordBetween z 0 c.word.result.0.now c.word.result.1.at) (ap (λ (z : Source). z.bytes.now) c.new-2.ensures.source ∙ c.new.ensures.bytes)
+          (subst (λ k. WordBetween start.source.bytes.now k c.word.result.0.now c.word.result.1.at) c.new-2.ensures.at
+          (word_between start here c.word.result.1 c.word.result.0.now gap.after.same gap.at word.is word.at word.whole word.over)));
       text = sym (ap words line) ∙ sym gap.apart ∙ ap words word.is ∙ ap (λ z. words (z ++ left_of c.word.result.1)) named;
       over = word.over;
       words = λ apart. first_word c.args.line.now start c.past_spaces-here.result c.word.result.1 c.word.result.0.now (ap words line) gap.apart word.is word.whole some apart

@@ -9,4 +9,4 @@ returns-clause-read c =
     let word = c.word.ensures in
     let named = rw c.in_ok-name.ensures.found at c.name_in.ensures in
     subst (λ z. NextWord c.args.self c.word.result.1 z) (sym named.0)
-    (next_word _ _ _ _ gap.after gap.apart word.after word.is word.whole word.over named.1)
+    (next_word _ _ _ _ gap.after gap.at gap.apart word.after word.at word.is word.whole word.over named.1)

@@ -8,6 +8,6 @@ returns-clause-read c =
     let numeral = rw c.in_ok-number.ensures.found at c.number_in.ensures in
     record {
       digits = c.word.result.0.now;
-      word = next_word _ _ _ _ gap.after gap.apart word.after word.is word.whole word.over numeral.0.0;
+      word = next_word _ _ _ _ gap.after gap.at gap.apart word.after word.at word.is word.whole word.over numeral.0.0;
       number = numeral;
     }

@@ -1,4 +1,6 @@
-use Rattle.std.proofs.Common.{◌≡◌, ◌+◌, ◌∷◌, ◌<◌, length, get_or, drop, sym, ap, ◌∙◌, arith}
+use Rattle.std.proofs.Common.{◌≡◌, ◌+◌, ◌∷◌, ◌<◌, length, get_or, drop, sym, ap, subst, ◌∙◌, arith}
+use Rattle.jobs.proofs.Faults.{first_is}
+use Rattle.jobs.specs.Places.{First}
 use Rattle.jobs.specs.Signs.{squeezed, code_of}
 use Rattle.jobs.proofs.Squeezed.{past_sign_at, filled}
 use Rattle.jobs.proofs.cursor.Cursor.past_byte.Goals as goal
@@ -16,3 +18,8 @@ returns-then-rest-byte-clause-read c =
       same = c.past.ensures.same;
       text = past_sign_at bs s.at c.args.sign low first ∙ ap (λ d. code_of c.args.sign ∷ squeezed d) further;
     }
+
+pub returns-then-rest-byte-clause-on : goal.returns-then-rest-byte-clause-on
+returns-then-rest-byte-clause-on c =
+    let long : 0 < length c.rest-rest.result.now = filled _ (sym c.is_empty.ensures ∙ c.if-not-is_empty.true) in
+    (c.past.ensures.at, subst (First (code_of c.args.sign)) c.rest-rest.ensures.bytes (first_is c.rest-rest.result.now (code_of c.args.sign) long (c.if-rest-byte.true ∙ c.byte.ensures)))

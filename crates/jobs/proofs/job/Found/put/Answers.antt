@@ -37,7 +37,7 @@ returns-in_ok-letters-in-Roles c =
 
 pub returns-in_ok-row_of-in-Records : goal.returns-in_ok-row_of-in-Records
 returns-in_ok-row_of-in-Records c =
-    let (apart, said) = c.in_ok-row_of-in-Records.ensures in
+    let (apart, said) = c.in_ok-row_of-in-Records.ensures.read in
     let absent = rw c.in-Records.is at (sym c.has.ensures ∙ c.if-has.false) in
     let words = rw c.in-Records.is at (c.requires.words apart) in
     let text = rw c.in-Records.is at c.requires.text in
