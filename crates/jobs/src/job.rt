@@ -4,10 +4,8 @@ ghost use Rattle.std.specs.Str.{chars};
 ghost use Rattle.std.specs.Str.Lines.{lines as lines_of};
 ghost use Rattle.jobs.specs.Heads.{SpellsRoles, Whole, Spoilt, missing};
 ghost use Rattle.jobs.specs.declared.job.LineWord.{LineWord as LineWordOf};
-ghost use Rattle.jobs.specs.declared.place.HeadWord.{HeadWord as HeadWordOf};
-ghost use Rattle.jobs.specs.declared.place.Wrong.TheVariants.{MissingLine};
 ghost use Rattle.jobs.specs.Faults.{InText};
-ghost use Rattle.jobs.specs.Places.{blamed, left_of, line_start, words_left};
+ghost use Rattle.jobs.specs.Places.{left_of, words_left};
 ghost use Rattle.jobs.specs.Signs.{words, WordOver, Apart};
 ghost use Rattle.jobs.specs.Steps.{BeginsWith, NoWord, Says, StepWrong, StepRead, OneName, OneRow, OneEntry, OperandsBlamed, operands_of, a_name, a_number, word_text};
 
