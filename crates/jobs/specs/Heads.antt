@@ -99,6 +99,10 @@ pub record AllFound (f : Found) (n : ℕ) (h : Head) : Type 0 where
   pub records : f.records ≡ Some h.records
   pub lines : h.lines ≡ n
 
+-- The line of this number is told, from its beginning, as one where the head has ended without such a line.
+abbrev pub missing : ℕ → HeadWord → BadText
+missing number w = blamed (line_start number) (MissingLine w)
+
 -- The head is over behind this many lines: all was found, or the line behind it is told as lacking one.
 abbrev pub HeadFrom : Found → ℕ → Result Head BadText → Type 0
 HeadFrom f n r = MatchResult r (AllFound f n) (λ e. (w : HeadWord) × (has_line f w ≡ false) × (e ≡ blamed (line_start (n + 1)) (MissingLine w)))

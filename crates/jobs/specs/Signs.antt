@@ -59,6 +59,10 @@ Numeral s n = IsNumeral 10 s × (n ≡ digits_value 10 s)
 abbrev pub IsNoNumber : List ℕ → Type 0
 IsNoNumber s = IsNumeral 10 s → 2 ^ 64 ≤ digits_value 10 s
 
+-- A text is this word, which is not empty.
+abbrev pub IsName : List ℕ → List ℕ → Type 0
+IsName w s = (s ≡ w) × (0 < length w)
+
 -- No name of a file: the word is empty, or no text in UTF-8.
 abbrev pub IsNoName : List ℕ → Type 0
 IsNoName s = 0 < length s → IsUtf8 s → ⊥

@@ -1,7 +1,7 @@
 // Going over a text.
 ghost use Rattle.std.specs.List.{AllByRecursion};
 ghost use Rattle.std.specs.Prelude.{◌≡◌, ◌≤◌, ◌<◌, ◌++◌, false, length, take, drop, MatchOption};
-ghost use Rattle.jobs.specs.Signs.{is_space, ends_word, spaces_first, squeezed, words, WordOver, Flush, code_of, Numeral, IsNoNumber, IsNoName};
+ghost use Rattle.jobs.specs.Signs.{is_space, ends_word, spaces_first, squeezed, words, WordOver, Flush, code_of, Numeral, IsNoNumber, IsName, IsNoName};
 
 use crate::place::{BadText, Place, Sign, Wrong};
 use std::str;
@@ -181,7 +181,8 @@ impl<'a> Cursor<'a> {
     // The next byte, which is this sign.
     fn past_byte(self, sign: Sign) -> Result<Cursor<'a>, BadText>
         ensures read { IfOk result (λ c. After self.entry c (code_of sign ∷ [])) }
-        ensures on { IfOk result (λ c. (c.at ≡ self.entry.at + 1) × First (code_of sign) (left_of self.entry)) }
+        ensures at { IfOk result (λ c. c.at ≡ self.entry.at + 1) }
+        ensures first { IfOk result (λ _. First (code_of sign) (left_of self.entry)) }
         ensures fault { IfErr result (λ e. e ≡ bad_at self.entry (MissingSign sign)) }
         ensures absent { IfErr result (λ _. NotFirst (code_of sign) (left_of self.entry)) }
     {
@@ -263,7 +264,7 @@ fn number_in(word: &[u8]) -> Option<u64>
 }
 
 fn name_in(word: &[u8]) -> Option<&str>
-    ensures { MatchOption result (IsNoName word.now) (λ s. (s.now ≡ word.now) × (0 < length word.now)) }
+    ensures { MatchOption result (IsNoName word.now) (λ s. IsName word.now s.now) }
 {
     if word.is_empty() {
         None

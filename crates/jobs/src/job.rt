@@ -2,12 +2,10 @@
 ghost use Rattle.std.specs.Prelude.{◌≡◌, ◌+◌, ◌<◌, ◌^◌, ◌++◌, [], ◌∷◌, true, false, IfErr, IfOk, MatchResult, MatchOption};
 ghost use Rattle.std.specs.Str.{chars};
 ghost use Rattle.std.specs.Str.Lines.{lines as lines_of};
-ghost use Rattle.jobs.specs.Heads.{SpellsRoles, Whole, Spoilt};
+ghost use Rattle.jobs.specs.Heads.{SpellsRoles, Whole, Spoilt, missing};
 ghost use Rattle.jobs.specs.declared.job.LineWord.{LineWord as LineWordOf};
-ghost use Rattle.jobs.specs.declared.place.HeadWord.{HeadWord as HeadWordOf};
-ghost use Rattle.jobs.specs.declared.place.Wrong.TheVariants.{MissingLine};
 ghost use Rattle.jobs.specs.Faults.{InText};
-ghost use Rattle.jobs.specs.Places.{blamed, left_of, line_start, words_left};
+ghost use Rattle.jobs.specs.Places.{left_of, words_left};
 ghost use Rattle.jobs.specs.Signs.{words, WordOver, Apart};
 ghost use Rattle.jobs.specs.Steps.{BeginsWith, NoWord, Says, StepWrong, StepRead, OneName, OneRow, OneEntry, OperandsBlamed, operands_of, a_name, a_number, word_text};
 
@@ -290,7 +288,7 @@ impl Found {
 fn needed<T: Drop>(found: Option<T>, word: HeadWord, lines: usize) -> Result<T, BadText>
     requires { lines + 1 < 2 ^ 64 }
     ensures found { IfOk result (λ x. found ≡ Some x) }
-    ensures lacks { IfErr result (λ e. (found ≡ None) × (e ≡ blamed (line_start (lines + 1)) (MissingLine word))) }
+    ensures lacks { IfErr result (λ e. (found ≡ None) × (e ≡ missing (lines + 1) word)) }
 {
     match found {
         Some(x) => Ok(x),

@@ -19,7 +19,7 @@ returns-then-rest-byte-clause-read c =
       text = past_sign_at bs s.at c.args.sign low first ∙ ap (λ d. code_of c.args.sign ∷ squeezed d) further;
     }
 
-pub returns-then-rest-byte-clause-on : goal.returns-then-rest-byte-clause-on
-returns-then-rest-byte-clause-on c =
+pub returns-then-rest-byte-clause-first : goal.returns-then-rest-byte-clause-first
+returns-then-rest-byte-clause-first c =
     let long : 0 < length c.rest-rest.result.now = filled _ (sym c.is_empty.ensures ∙ c.if-not-is_empty.true) in
-    (c.past.ensures.at, subst (First (code_of c.args.sign)) c.rest-rest.ensures.bytes (first_is c.rest-rest.result.now (code_of c.args.sign) long (c.if-rest-byte.true ∙ c.byte.ensures)))
+    subst (First (code_of c.args.sign)) c.rest-rest.ensures.bytes (first_is c.rest-rest.result.now (code_of c.args.sign) long (c.if-rest-byte.true ∙ c.byte.ensures))
