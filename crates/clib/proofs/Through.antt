@@ -1,5 +1,5 @@
 -- Numbers through a cipher that the bytes make.
-use Rattle.std.proofs.Common.{ℕ, List, Ok, Err, Result, MatchResult}
+use Rattle.std.proofs.Common.{◌≡◌, ℕ, List, Ok, Err, Result, MatchResult}
 use Rattle.meanings.specs.Layers.{turned}
 use Rattle.kcipher.specs.Bytes.{CipherOf}
 use Rattle.kcipher.specs.Ciphers.{cipher_means}
@@ -19,8 +19,13 @@ pub coded : (draft key old new : List ℕ) (c : KCipher) → CipherOf draft key 
 coded draft key old new c is (Ok u) h = (c, is, h)
 coded draft key old new c is (Err e) h = unwritten draft key old new c is e h
 
-pub turned_back : (draft key old new : List ℕ) (c : KCipher) → CipherOf draft key c → (r : Result (Unit {0}) Refused)
+back : (draft key old new : List ℕ) (c : KCipher) → CipherOf draft key c → (r : Result (Unit {0}) Refused)
     → MatchResult r (λ _. AllThrough (turned (cipher_means c)) old new) (λ e. FirstAboveOf (turned (cipher_means c)) old new e)
     → MatchResult r (λ _. AllBack draft key old new) (λ e. Unwritten draft key old new e)
-turned_back draft key old new c is (Ok u) h = (c, is, h)
-turned_back draft key old new c is (Err e) h = unwritten draft key old new c is e h
+back draft key old new c is (Ok u) h = (c, is, h)
+back draft key old new c is (Err e) h = unwritten draft key old new c is e h
+
+pub turned_back : (draft key old new : List ℕ) (c : KCipher) → CipherOf draft key c → (below : KCipher) → below ≡ c → (r : Result (Unit {0}) Refused)
+    → MatchResult r (λ _. AllThrough (turned (cipher_means below)) old new) (λ e. FirstAboveOf (turned (cipher_means below)) old new e)
+    → MatchResult r (λ _. AllBack draft key old new) (λ e. Unwritten draft key old new e)
+turned_back draft key old new c is below same r h = back draft key old new c is r (rw same at h)
