@@ -3,12 +3,11 @@ pub mod Long
 pub mod Written
 pub mod Refused
 pub mod Building
-pub mod Telling
 pub mod Signs
 pub mod Places
 pub mod Parsed
 pub mod Faults
-pub mod Told
+pub mod Shown
 pub mod Rows
 pub mod Steps
 pub mod Heads

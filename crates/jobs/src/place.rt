@@ -1,6 +1,6 @@
 // What is wrong with the text of a job, and where.
 ghost use Rattle.std.specs.Prelude.{◌≡◌, Some as Shown};
-ghost use Rattle.jobs.specs.Told.{bad_text, head_words, place_text, sign_words, wrong_words};
+ghost use Rattle.jobs.specs.Shown.{bad_text, head_words, place_text, sign_words, wrong_words};
 
 use std::error::Error;
 use std::fmt;

@@ -1,7 +1,7 @@
 // Why a written pile cannot be built.
 ghost use Rattle.std.specs.Prelude.{◌≡◌};
 ghost use Rattle.std.specs.Fmt.{padded};
-ghost use Rattle.jobs.specs.Telling.{unbuilt_text, padded_unbuilt_text};
+ghost use Rattle.jobs.specs.Shown.{unbuilt_text, padded_unbuilt_text};
 ghost use Rattle.jobs.specs.declared.unbuilt.Unbuilt.TheVariants.{Pile as PileRefused};
 
 use keys::refusal::KeyRefusal;
