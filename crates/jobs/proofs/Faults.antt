@@ -98,6 +98,10 @@ first_at s h line number same at start left begins =
     let here : h.at ≡ spaces_first line = omega (arith, at, start, gone) in
     ap (λ (z : Source). place_from z.start h.at) same ∙ ap (λ z. place_from z h.at) begins ∙ ap (place_from (line_start number)) here
 
+-- What is left at the start of a text is the whole.
+pub all_left : (s : Cursor) (given : Source) (text : List ℕ) → s.at ≡ 0 → s.source ≡ given → given.bytes.now ≡ text → left_of s ≡ text
+all_left s given text at same bytes = ap (λ k. drop k s.source.bytes.now) at ∙ ap (λ (z : Source). z.bytes.now) same ∙ bytes
+
 -- ---- where a word and a sign stand
 
 -- Past the spaces of one place what is left is what is left at the other.

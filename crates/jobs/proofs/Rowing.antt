@@ -103,6 +103,15 @@ field_on line c d n bytes f = (f.text, subst (λ z. WordBetween z c.at f.text d.
 abbrev pub Stood : List ℕ → List ℕ → Cursor → Type 0
 Stood line numbers c = FieldsBetween line 0 numbers c.at
 
+-- A loop over the fields of a line begins at its start, and has come to a place of the same text.
+pub on_line : (line : List ℕ) (number : ℕ) (numbers : List ℕ) (begin c : Cursor) (given : Source) → given.bytes.now ≡ line → given.start ≡ line_start number
+    → begin.source ≡ given → c.source ≡ begin.source → Stood begin.source.bytes.now numbers c → OfLine line number c.source × Stood line numbers c
+on_line line number numbers begin c given bytes start same here stood =
+    let source : c.source ≡ given = here ∙ same in (
+      record { bytes = ap (λ (z : Source). z.bytes.now) source ∙ bytes; start = ap (λ (z : Source). z.start) source ∙ start },
+      subst (λ z. Stood z numbers c) (ap (λ (z : Source). z.bytes.now) same ∙ bytes) stood,
+    )
+
 pub stood_more : (line : List ℕ) (numbers after : List ℕ) (c d f : Cursor) (n : ℕ) → c.source.bytes.now ≡ line → Stood line numbers c → FieldRead c d n
     → d.source ≡ c.source → SignPast d Comma f → after ≡ numbers ++ (n ∷ []) → Stood line after f
 stood_more line numbers after c d f n bytes before field same comma push =

@@ -1,7 +1,6 @@
 // Building the pile that is written.
 ghost use Rattle.std.specs.Prelude.{◌≡◌, MatchResult};
-ghost use Rattle.kcipher.specs.Ciphers.{cipher_means};
-ghost use Rattle.jobs.specs.Building.{Answers};
+ghost use Rattle.jobs.specs.Building.{Answers, LeafOf};
 ghost use Rattle.jobs.specs.Leaves.{leaf_means};
 ghost use Rattle.jobs.specs.Refused.{PlusRefused, CipherRefused};
 ghost use Rattle.jobs.specs.Written.{bytes_at, IsPlus, IsCipherOf};
@@ -59,7 +58,7 @@ fn cipher(heap: Global, files: &[Vec<u8>], draft: usize, key: usize) -> Result<L
 
 // A cipher as a leaf.
 fn on_heap(heap: Global, coding: KCipher) -> Result<Leaf, Unbuilt>
-    ensures { MatchResult result (λ l. leaf_means l ≡ cipher_means coding) (λ e. e ≡ Unbuilt.Pile PileError.NoMemory) }
+    ensures { LeafOf coding result }
 {
     match Box::new(heap, coding) {
         Ok(boxed) => Ok(Leaf::Cipher(boxed)),

@@ -1,13 +1,27 @@
 // Reading a row of a table: numbers with commas between them.
-ghost use Rattle.std.specs.Prelude.{MatchResult};
+ghost use Rattle.std.specs.Prelude.{◌≡◌, [], IfErr, MatchResult};
 ghost use Rattle.jobs.specs.Rows.{RowRead, FieldRead, FieldWrong};
 
 use crate::cursor::{Cursor, Source};
 use crate::place::{BadText, Place, Sign, Wrong};
 
-// The numbers of a line take the place of those that were there. An empty field is a number that nobody knows, and is put as 0.
-// The number of the line is for the place of a fault.
+// The numbers of a line take the place of those that were there; where the line is refused, none are left. An empty field is a number
+// that nobody knows, and is put as 0. The number of the line is for the place of a fault.
 pub fn read_row(line: &str, number: usize, numbers: &mut Vec<u64>) -> Result<(), BadText>
+    ensures read { RowRead line.now number numbers.new.items result }
+    ensures emptied { IfErr result (λ _. numbers.new.items ≡ []) }
+{
+    match read_fields(line, number, numbers) {
+        Ok(()) => Ok(()),
+        Err(bad) => {
+            numbers.clear();
+            Err(bad)
+        }
+    }
+}
+
+// The same, but of a line that is refused the numbers before the fault are left.
+fn read_fields(line: &str, number: usize, numbers: &mut Vec<u64>) -> Result<(), BadText>
     ensures { RowRead line.now number numbers.new.items result }
 {
     let start = Place {

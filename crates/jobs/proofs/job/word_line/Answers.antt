@@ -1,11 +1,11 @@
-use Rattle.std.proofs.Common.{◌≡◌, ◌∷◌, ◌++◌, ◌<◌, length, get_or, ap, sym, ◌∙◌, drop, inl, subst}
-use Rattle.jobs.specs.Places.{left_of, rest_of, words_left}
+use Rattle.std.proofs.Common.{◌≡◌, ◌∷◌, ◌++◌, ◌<◌, length, get_or, ap, sym, ◌∙◌, inl, subst}
+use Rattle.jobs.specs.Places.{left_of, words_left}
 use Rattle.jobs.specs.Signs.{squeezed, words}
 use Rattle.jobs.specs.declared.cursor.Source.{Source}
 use Rattle.jobs.specs.declared.place.Place.{Place}
 use Rattle.jobs.proofs.Squeezed.{at_the_end}
 use Rattle.jobs.proofs.Wording.{first_word, word_text_some, left_some, no_bytes, speaks, unknown}
-use Rattle.jobs.proofs.Faults.{first_at, word_between}
+use Rattle.jobs.proofs.Faults.{all_left, first_at, word_between}
 use Rattle.jobs.specs.Places.{blamed, WordBetween}
 use Rattle.jobs.specs.declared.place.Wrong.TheVariants.{UnknownWord}
 use Rattle.jobs.proofs.job.word_line.Goals as goal
@@ -15,16 +15,14 @@ pub returns-then-is_end : goal.returns-then-is_end
 returns-then-is_end c =
     let start = c.new-2.result in
     let here = c.past_spaces-here.result in
-    let text : rest_of start ≡ squeezed c.args.line.now =
-    ap (λ k. squeezed (drop k start.source.bytes.now)) c.new-2.ensures.at ∙ ap (λ z. squeezed z.bytes.now) c.new-2.ensures.source ∙ ap squeezed c.new.ensures.bytes in
+    let text = ap squeezed (all_left start c.new.result c.args.line.now c.new-2.ensures.at c.new-2.ensures.source c.new.ensures.bytes) in
     inl (sym text ∙ c.past_spaces-here.ensures.after.text ∙ at_the_end here.source.bytes.now here.at (sym c.is_end.ensures ∙ c.if-is_end.true))
 
 pub returns-in-Some : goal.returns-in-Some
 returns-in-Some c =
     let start = c.new-2.result in
     let word = c.word.ensures in
-    let line : left_of start ≡ c.args.line.now =
-    ap (λ k. drop k start.source.bytes.now) c.new-2.ensures.at ∙ ap (λ (z : Source). z.bytes.now) c.new-2.ensures.source ∙ c.new.ensures.bytes in
+    let line = all_left start c.new.result c.args.line.now c.new-2.ensures.at c.new-2.ensures.source c.new.ensures.bytes in
     let gap = c.past_spaces-here.ensures in
     let source = gap.after.same ∙ c.new-2.ensures.source in
     let named = c.in-Some.ensures in
@@ -59,8 +57,7 @@ pub returns-in-None : goal.returns-in-None
 returns-in-None c =
     let start = c.new-2.result in
     let word = c.word.ensures in
-    let line : left_of start ≡ c.args.line.now =
-    ap (λ k. drop k start.source.bytes.now) c.new-2.ensures.at ∙ ap (λ (z : Source). z.bytes.now) c.new-2.ensures.source ∙ c.new.ensures.bytes in
+    let line = all_left start c.new.result c.args.line.now c.new-2.ensures.at c.new-2.ensures.source c.new.ensures.bytes in
     let gap = c.past_spaces-here.ensures in
     let here = c.past_spaces-here.result in
     let more = left_some here.source.bytes.now here.at here.within (sym c.is_end.ensures ∙ c.if-is_end.false) in

@@ -1,7 +1,7 @@
 use Rattle.std.proofs.Common.{◌≡◌, length}
 use Rattle.jobs.specs.Places.{rest_of}
 use Rattle.jobs.proofs.Rowing.{SoFar, Stood}
-use Rattle.jobs.proofs.row.read_row.Given as goal
+use Rattle.jobs.proofs.row.read_fields.Given as goal
 
 abbrev pub invariant-loop-next : goal.invariant-loop-next
 invariant-loop-next l = record { same : l.cursor.source ≡ l.initial.cursor.source; so_far : SoFar (rest_of l.initial.cursor) l.numbers.items l.cursor; stood : Stood l.initial.cursor.source.bytes.now l.numbers.items l.cursor }
