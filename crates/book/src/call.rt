@@ -20,7 +20,7 @@ pub enum Call<'a> {
 }
 
 // What a call answers that is not refused.
-#[derive(Drop, PartialEq, Eq, Debug)]
+#[derive(Clone, Copy, PartialEq, Eq, Debug)]
 pub enum Answer {
     // The number of the row that was put.
     Put(usize),

@@ -1,14 +1,14 @@
 // The two sides of equations between codings, asked about one number.
 use codings::refusal::AboveTop;
 
-#[derive(Drop)]
+#[derive(Clone, Copy, PartialEq, Eq, Debug)]
 pub struct Sides {
     pub left: Result<u64, AboveTop>,
     pub right: Result<u64, AboveTop>,
 }
 
 // One pair of sides for each of the five laws.
-#[derive(Drop)]
+#[derive(Clone, Copy, PartialEq, Eq, Debug)]
 pub struct FiveLaws {
     // In a chain of three it makes no difference which two are taken together.
     pub regrouped: Sides,

@@ -17,7 +17,7 @@ pub struct Ran {
 }
 
 // Why no release was opened; row memory is then as it was.
-#[derive(Drop, PartialEq, Eq, Debug)]
+#[derive(Clone, Copy, PartialEq, Eq, Debug)]
 pub enum Unopened {
     Refused(Refusal),
     // There is no memory for the answers.
