@@ -61,6 +61,19 @@ fn bits_turned_round_at_64(rt: HostRuntime) -> Result<(), Fail> {
     Ok(())
 }
 
+// The first bit changes places with the last, and so on inwards: an order that is its own way back.
+#[test]
+fn bits_mirrored_at_64(rt: HostRuntime) -> Result<(), Fail> {
+    let mut places = plain(64);
+    places.reverse();
+    let order = order_of(64, places)?;
+    assert_eq!(rt; order.apply(1), 1 << 63);
+    assert_eq!(rt; order.apply(0xf0), 0x0f << 56);
+    assert_eq!(rt; order.undo(1 << 63), 1);
+    assert_eq!(rt; order.apply(u64::MAX), u64::MAX);
+    Ok(())
+}
+
 #[test]
 fn faults_at_their_first_place(rt: HostRuntime) -> Result<(), Fail> {
     for at in 0..24 {

@@ -58,6 +58,12 @@ fn as_high_as_may_be(rt: HostRuntime) -> Result<(), Fail> {
         let over = tower(heap, below)?.chain(heap, Pile::leaf(Mirror::new(5)))?;
         assert_eq!(rt; over.height(), height);
     }
+    let mut turned = Pile::leaf(Mirror::new(9));
+    for _ in 1..1000u32 {
+        turned = turned.turned(heap)?;
+    }
+    assert_eq!(rt; turned.height(), 1000);
+    assert_eq!(rt; turned.code(2), Ok(7));
     let pile = tower(heap, 1000)?;
     assert_eq!(rt; pile.top(), 8);
     for x in 0..9u64 {
