@@ -22,7 +22,7 @@ plain_setup o = setup_of o (record { yarn = clear 0; hands = clear 0 })
 
 -- the release with so many places taken
 abbrev pub with_taken : Plain → ℕ → Plain
-with_taken o n = record { columns = o.columns; records = o.records; taken = n; few = o.few }
+with_taken o n = record { columns = o.columns; records = o.records; taken = n }
 
 -- The place of the record of the row numbered i, where that row stands.
 abbrev pub Standing : (taken : ℕ) → List Row → ℕ → Option ℕ → Type 0

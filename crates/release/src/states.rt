@@ -1,4 +1,6 @@
 // Releases, in two states.
+ghost use Rattle.std.specs.Prelude.{◌≤◌, length};
+
 use crate::plain::Plain;
 
 // A release in the state S. There is one of it: it is moved, and never copied.
@@ -6,6 +8,8 @@ use crate::plain::Plain;
 pub struct Release<S> {
     pub(crate) plain: Plain,
     pub(crate) state: S,
+    // Said here, since columns are seen as their roles alone: whoever is lent a release knows that there are at most eight.
+    ghost few: { length plain.columns ≤ 8 },
 }
 
 // Rows can be put and withdrawn, shown and turned back, until the release is sealed or scrapped. This state has no `Drop`, so

@@ -1,4 +1,4 @@
-use Rattle.std.proofs.Common.{◌≡◌, length, Err, sym, ap, ◌∙◌, arith}
+use Rattle.std.proofs.Common.{rules, ◌≡◌, length, Err, sym, ap, arith}
 use Rattle.std.proofs.lemmas.List.{get_or_read}
 use Rattle.std.proofs.lemmas.Result.{err_from_is_err_and}
 use Rattle.book.specs.Roles.{role_read}
@@ -10,14 +10,14 @@ loop-j-init c = read_none _
 
 pub loop-j-preserved : goal.loop-j-preserved
 loop-j-preserved c =
-    let letter = get_or_read c.args.letters.now c.loop-j.j c.index-letters-j.result (omega arith) c.index-letters-j.is 0 in
-    read_one _ _ _ _ (omega arith) (omega arith) c.loop-j.invariant (c.in_ok-roles.ensures ∙ ap role_read letter)
+    let letter = ap role_read (get_or_read c.args.letters.now c.loop-j.j c.index-letters-j.result (omega arith) c.index-letters-j.is 0) in
+    read_one _ _ _ _ (omega arith) (omega arith) c.loop-j.invariant (search rules)
 
 pub returns-in_err-roles-clause-answer : goal.returns-in_err-roles-clause-answer
 returns-in_err-roles-clause-answer c =
-    let letter = get_or_read c.args.letters.now c.loop-j.j c.index-letters-j.result (omega arith) c.index-letters-j.is 0 in
+    let letter = ap role_read (get_or_read c.args.letters.now c.loop-j.j c.index-letters-j.result (omega arith) c.index-letters-j.is 0) in
     let p = err_from_is_err_and c.from_residual.result c.from_residual.ensures.1 in
-    let bad = columns_bad _ _ _ _ c.if-count-eq0.false c.if-count-gt8.false (omega arith) c.loop-j.invariant (c.in_err-roles.ensures ∙ ap role_read letter) in
+    let bad = columns_bad _ _ _ c.in_err-roles.field-0.0 c.if-count-eq0.false c.if-count-gt8.false (omega arith) c.loop-j.invariant (search rules) in
     rw (bad, p.1) (ap Err p.2)
 
 pub invariant_of-result : goal.invariant_of-result
