@@ -1,4 +1,5 @@
 // The mill's colours: the pile that codes them, and what is printed of it.
+use crate::refusals::tell_refused;
 use codings::coding::Coding;
 use codings::plus::Plus;
 use laws::laws_at;
@@ -40,14 +41,14 @@ fn tell_code(rt: &impl Print, coding: &Pile<Plus>, colour: u64) -> io::Result<()
             println!(rt; "colour {colour} has code {code}")?;
             tell_back(rt, coding, code)
         }
-        Err(refusal) => println!(rt; "colour {colour}: refused {}: {refusal}", refusal.number()),
+        Err(refusal) => tell_refused(rt, &format_args!("colour {colour}"), refusal.into()),
     }
 }
 
 fn tell_back(rt: &impl Print, coding: &Pile<Plus>, code: u64) -> io::Result<()> {
     match coding.back(code) {
         Ok(colour) => println!(rt; "  code {code} is colour {colour}"),
-        Err(refusal) => println!(rt; "code {code}: refused {}: {refusal}", refusal.number()),
+        Err(refusal) => tell_refused(rt, &format_args!("code {code}"), refusal.into()),
     }
 }
 

@@ -60,10 +60,9 @@ fn tell_answers(
 ) -> io::Result<()> {
     println!(rt; "a release of yarn, hands and a clear column over 4 row records:")?;
     for (call, answer) in calls.iter().zip(answers) {
-        print!(rt; "  {call}: ")?;
         match answer {
-            Ok(answer) => println!(rt; "{answer}")?,
-            Err(refusal) => tell_refused(rt, *refusal)?,
+            Ok(answer) => println!(rt; "  {call}: {answer}")?,
+            Err(refusal) => tell_refused(rt, &format_args!("  {call}"), *refusal)?,
         }
     }
     Ok(())
@@ -72,16 +71,10 @@ fn tell_answers(
 fn tell_sealed(rt: &impl Print, sealed: &Release<Sealed>, memory: &[Row]) -> io::Result<()> {
     match sealed.show(memory, Entry { row: 1, column: 1 }) {
         Ok(code) => println!(rt; "sealed: row 1 column 1 shows code {code}")?,
-        Err(refusal) => {
-            print!(rt; "sealed: row 1 column 1: ")?;
-            tell_refused(rt, refusal)?;
-        }
+        Err(refusal) => tell_refused(rt, &"sealed: row 1 column 1", refusal)?,
     }
     match sealed.tally(memory) {
         Ok(tally) => println!(rt; "sealed: {}", Answer::Tally(tally)),
-        Err(refusal) => {
-            print!(rt; "sealed: tally: ")?;
-            tell_refused(rt, refusal)
-        }
+        Err(refusal) => tell_refused(rt, &"sealed: tally", refusal),
     }
 }

@@ -1,8 +1,8 @@
 // How a refusal is told.
 use book::refusal::Refusal;
-use std::io;
+use std::{fmt, io};
 
-// The rest of a line, behind what was refused, which each caller tells in words of its own before it.
-pub fn tell_refused(rt: &impl Print, refusal: Refusal) -> io::Result<()> {
-    println!(rt; "refused {}: {refusal}", refusal.number())
+// One line, in one write: what was refused, the number and the words. A coding's refusal is told as that of a release.
+pub fn tell_refused(rt: &impl Print, what: &impl fmt::Display, refusal: Refusal) -> io::Result<()> {
+    println!(rt; "{what}: refused {}: {refusal}", refusal.number())
 }

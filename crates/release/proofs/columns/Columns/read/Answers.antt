@@ -8,6 +8,7 @@ use Rattle.release.proofs.columns.Columns.read.Goals as goal
 pub loop-j-init : goal.loop-j-init
 loop-j-init c = read_none _
 
+-- `letter` is there for the search, here and below: which role letter j reads as
 pub loop-j-preserved : goal.loop-j-preserved
 loop-j-preserved c =
     let letter = ap role_read (get_or_read c.args.letters.now c.loop-j.j c.index-letters-j.result (omega arith) c.index-letters-j.is 0) in
