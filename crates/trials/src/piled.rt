@@ -77,6 +77,7 @@ fn turned_as_often_as_may_be(rt: HostRuntime) -> Result<(), Fail> {
     }
     assert_eq!(rt; pile.height(), 1000);
     assert_eq!(rt; pile.code(2), Ok(7));
+    assert_eq!(rt; pile.turned(heap).err(), Some(PileError::TooHigh));
     Ok(())
 }
 
